@@ -1,0 +1,3 @@
+pub mod Ranges
+pub mod GaussianLaws
+pub mod Examples

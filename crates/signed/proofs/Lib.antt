@@ -1,0 +1,5 @@
+-- `SignedLaws` is for callers; `Results` and `Border` are for the proofs of this crate's functions.
+pub mod SignedLaws
+pub mod Results
+pub mod Border
+pub mod Examples

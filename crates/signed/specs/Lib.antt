@@ -1,0 +1,2 @@
+-- What the contracts of `signed` cite.
+pub mod Value

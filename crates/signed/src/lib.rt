@@ -1,0 +1,215 @@
+// Whole numbers with a sign: a sign and a size, of which each function says what it is in ℤ.
+// Sums and products of such numbers are proved as unsigned ones are, by the bounds of their sizes.
+ghost use mathlib.Core.Path.{_≡_};
+ghost use mathlib.Core.Bool.{cond};
+ghost use Prim.Native.Nat.{_+_, _*_, _/_, _^_, _<_, max};
+ghost use lib.Dec.{eqb};
+ghost use lib.IntN.{pos, negℤ, natAbs, _+ℤ_, _-ℤ_, _*ℤ_};
+ghost use lib.Signed.{ltZ, quotZ};
+ghost use Rattle.signed.specs.Value.{int, Exactly, Within, Apart, Size};
+
+// n, or -n where neg is true. Zero may carry either sign.
+pub struct Int {
+    pub neg: bool,
+    pub n: u64,
+}
+
+pub fn natural(n: u64) -> Int
+    ensures { λ r. ⌜ Exactly (pos n) n r ⌝ }
+{
+    Int { neg: false, n: n }
+}
+
+pub fn negated(a: Int) -> Int
+    ensures { λ r. ⌜ Exactly (negℤ (int a)) (a .n) r ⌝ }
+{
+    Int {
+        neg: !a.neg,
+        n: a.n,
+    }
+}
+
+pub fn product(a: Int, b: Int) -> Int
+    requires { ⌜ a .n * b .n < 2 ^ 64 ⌝ }
+    ensures { λ r. ⌜ Exactly (int a *ℤ int b) (a .n * b .n) r ⌝ }
+{
+    Int {
+        neg: a.neg != b.neg, // below 0 where the signs differ
+        n: a.n * b.n,
+    }
+}
+
+pub fn scaled(a: Int, k: u64) -> Int
+    requires { ⌜ a .n * k < 2 ^ 64 ⌝ }
+    ensures { λ r. ⌜ Exactly (int a *ℤ pos k) (a .n * k) r ⌝ }
+{
+    Int {
+        neg: a.neg,
+        n: a.n * k,
+    }
+}
+
+// x - y, which may be below 0.
+pub fn natural_difference(x: u64, y: u64) -> Int
+    ensures { λ r. ⌜ Apart x y r ⌝ }
+{
+    if y <= x {
+        return Int {
+            neg: false,
+            n: x - y,
+        };
+    }
+    Int {
+        neg: true,
+        n: y - x,
+    }
+}
+
+pub fn sum(a: Int, b: Int) -> Int
+    requires { ⌜ a .n + b .n < 2 ^ 64 ⌝ }
+    ensures { λ r. ⌜ Within (int a +ℤ int b) (a .n + b .n) r ⌝ }
+{
+    if a.neg {
+        if b.neg {
+            return Int {
+                neg: true,
+                n: a.n + b.n,
+            };
+        }
+        return natural_difference(b.n, a.n);
+    }
+    if b.neg {
+        return natural_difference(a.n, b.n);
+    }
+    Int {
+        neg: false,
+        n: a.n + b.n,
+    }
+}
+
+pub fn difference(a: Int, b: Int) -> Int
+    requires { ⌜ a .n + b .n < 2 ^ 64 ⌝ }
+    ensures { λ r. ⌜ Within (int a -ℤ int b) (a .n + b .n) r ⌝ }
+{
+    sum(a, negated(b))
+}
+
+// a / b, rounded toward zero.
+pub fn quotient(a: Int, b: Int) -> Int
+    requires { ⌜ 0 < b .n ⌝ }
+    ensures { λ r. ⌜ Exactly (quotZ (int a) (int b)) (a .n / b .n) r ⌝ }
+{
+    Int {
+        neg: a.neg != b.neg,
+        n: a.n / b.n,
+    }
+}
+
+// a / k, rounded toward zero.
+pub fn divided(a: Int, k: u64) -> Int
+    requires { ⌜ 0 < k ⌝ }
+    ensures { λ r. ⌜ Exactly (quotZ (int a) (pos k)) (a .n / k) r ⌝ }
+{
+    Int {
+        neg: a.neg,
+        n: a.n / k,
+    }
+}
+
+pub fn size(a: Int) -> u64
+    ensures { λ r. ⌜ Size a r ⌝ }
+{
+    a.n
+}
+
+pub fn less(a: Int, b: Int) -> bool
+    ensures { λ r. ⌜ r ≡ ltZ (int a) (int b) ⌝ }
+{
+    if a.neg {
+        if b.neg {
+            return b.n < a.n;
+        }
+        // -0 is not below 0
+        if 0 < a.n {
+            return true;
+        }
+        return 0 < b.n;
+    }
+    if b.neg {
+        return false;
+    }
+    a.n < b.n
+}
+
+pub fn is_negative(a: Int) -> bool
+    ensures { λ r. ⌜ r ≡ ltZ (int a) (pos 0) ⌝ }
+{
+    if a.neg {
+        return 0 < a.n;
+    }
+    false
+}
+
+pub fn is_positive(a: Int) -> bool
+    ensures { λ r. ⌜ r ≡ ltZ (pos 0) (int a) ⌝ }
+{
+    if a.neg {
+        return false;
+    }
+    0 < a.n
+}
+
+pub fn is_zero(a: Int) -> bool
+    ensures { λ r. ⌜ r ≡ eqb (natAbs (int a)) 0 ⌝ }
+{
+    a.n == 0
+}
+
+// a where t is true, and b where it is false.
+pub fn choose(t: bool, a: Int, b: Int) -> Int
+    ensures { λ r. ⌜ r ≡ cond t a b ⌝ }
+{
+    if t {
+        return a;
+    }
+    b
+}
+
+pub fn from_i64(x: i64) -> Int
+    ensures { λ r. ⌜ Exactly x (natAbs x) r ⌝ }
+{
+    if x < 0 {
+        // -x does not fit at the least `i64`, so one is taken off before the cast and added after it
+        return Int {
+            neg: true,
+            n: ((-1 - x) as u64) + 1,
+        };
+    }
+    Int {
+        neg: false,
+        n: x as u64,
+    }
+}
+
+pub fn to_i64(a: Int) -> i64
+    requires { ⌜ a .n < 2 ^ 63 ⌝ }
+    ensures { λ r. ⌜ r ≡ int a ⌝ }
+{
+    if a.neg {
+        return 0 - (a.n as i64);
+    }
+    a.n as i64
+}
+
+pub fn from_i32(x: i32) -> Int
+    ensures { λ r. ⌜ Exactly x (natAbs x) r ⌝ }
+{
+    from_i64(x as i64)
+}
+
+pub fn to_i32(a: Int) -> i32
+    requires { ⌜ a .n < 2 ^ 31 ⌝ }
+    ensures { λ r. ⌜ r ≡ int a ⌝ }
+{
+    to_i64(a) as i32
+}

@@ -1,0 +1,24 @@
+-- `sine::entry` meets its contract: what stands at k is the sine of k tenths, which is at most 10^9.
+-- Assumes nothing.
+use mathlib.Core.Path.{_∙_, sym, subst}
+use Prim.Native.Nat.{ℕ, _≤_}
+use borrow.Author.Needs.{needs}
+use Rattle.sine.specs.Sine.{Entry}
+use Rattle.sine.proofs.SineLaws.{entry-of}
+use Rattle.sine.proofs.entry.Statement.{statement}
+use Rattle.sine.proofs.entry.Tie as tie
+
+mul-wide : tie.Need-mul-wide
+mul-wide c = search needs
+
+element-copy-out-wide : tie.Need-element-copy-out-wide
+element-copy-out-wide c = search needs
+
+wide-requires : tie.Need-wide-requires
+wide-requires c κs = search needs
+
+returns : tie.Need-returns
+returns c = entry-of (c .before .before .pre .1) (c .wide .ensures ∙ c .before .before .pre .0 .entry _ (c .before .before .pre .1))
+
+pub entry-spec : {M : Type 1} → statement M
+entry-spec = tie.close (tie.spec mul-wide element-copy-out-wide wide-requires returns)
