@@ -1,0 +1,7 @@
+mod Comparisons
+mod Exactness
+mod Examples
+mod Flags
+mod Nearest
+mod Sizes
+pub mod FixedLaws

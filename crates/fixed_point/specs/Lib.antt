@@ -1,0 +1,4 @@
+pub mod Rounding
+pub mod Limits
+pub mod Refusals
+pub mod Samples
