@@ -3,7 +3,7 @@
 use mathlib.Core.Path.{_≡_, refl}
 use mathlib.Core.List.{List, [], _∷_, map}
 use Prim.Native.Nat.{ℕ}
-use lib.IntN.{ℤ, pos, negℤ}
+use lib.IntN.{pos, negℤ}
 use Rattle.sine.specs.Sine.{unit, pi, alternating, series, sineEntry, interpolated, sineQuarter, sineHalf, sineTurn, sineOf, cosineOf}
 
 -- in 10^-6 degree

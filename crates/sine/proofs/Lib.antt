@@ -1,3 +1,5 @@
-pub mod Tabulate
+-- Laws for callers, and examples.
 pub mod SineLaws
+pub mod Tabulate
+mod Results
 mod Examples

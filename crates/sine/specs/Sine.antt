@@ -9,7 +9,7 @@ use lib.Dec.{leb, ltb}
 use lib.IntN.{ℤ, pos, negℤ}
 use lib.ListN.{length, getD}
 
--- the series is worked in whole numbers of 10^-24: 1, and pi = 3.14159265358979323846
+-- the series is worked in whole numbers of 10^-24: this is 1, and below it pi = 3.14159265358979323846
 unfoldable pub unit : ℕ
 unit = 1000000000000000000000000
 
@@ -29,6 +29,10 @@ series x = alternating x x (3 ∷ 5 ∷ 7 ∷ 9 ∷ 11 ∷ 13 ∷ 15 ∷ 17 ∷ 
 unfoldable pub sineEntry : ℕ → ℕ
 sineEntry k = (series (k * pi / 1800) + 500000000000000) / 1000000000000000
 
+-- the cosine of k tenths of a degree: the sine of what is left to 90 degrees
+abbrev pub cosineEntry : ℕ → ℕ
+cosineEntry k = sineEntry (900 - k)
+
 -- between entries: sin and cos of the tenth below, and t, the rest of the angle as an arc in 10^-9
 unfoldable pub interpolated : ℕ → ℕ → ℕ → ℕ
 interpolated sin cos t = min 1000000000 ((sin * (1000000000 - t * t / 2000000000) + cos * t) / 1000000000)
@@ -36,7 +40,7 @@ interpolated sin cos t = min 1000000000 ((sin * (1000000000 - t * t / 2000000000
 -- from 0 to 90 degrees
 unfoldable pub sineQuarter : ℕ → ℕ
 sineQuarter angle =
-    interpolated (sineEntry (angle / 100000)) (sineEntry (900 - angle / 100000)) (angle % 100000 * 17453293 / 1000000)
+    interpolated (sineEntry (angle / 100000)) (cosineEntry (angle / 100000)) (angle % 100000 * 17453293 / 1000000)
 
 -- from 0 to 180 degrees: sin (180° - x) = sin x
 unfoldable pub sineHalf : ℕ → ℕ

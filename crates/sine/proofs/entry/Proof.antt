@@ -1,10 +1,8 @@
 -- `sine::entry` meets its contract: what stands at k is the sine of k tenths, which is at most 10^9.
 -- Assumes nothing.
-use mathlib.Core.Path.{_∙_, sym, subst}
-use Prim.Native.Nat.{ℕ, _≤_}
+use mathlib.Core.Path.{_∙_}
 use borrow.Author.Needs.{needs}
-use Rattle.sine.specs.Sine.{Entry}
-use Rattle.sine.proofs.SineLaws.{entry-of}
+use Rattle.sine.proofs.Results.{entry-of}
 use Rattle.sine.proofs.entry.Statement.{statement}
 use Rattle.sine.proofs.entry.Tie as tie
 

@@ -1,6 +1,6 @@
 -- `sine::sine` meets its contract: each half turn is a law.
 -- Assumes nothing.
-use Rattle.sine.proofs.SineLaws.{sine-first, sine-second}
+use Rattle.sine.proofs.Results.{sine-first, sine-second}
 use borrow.Author.Needs.{needs}
 use Rattle.sine.proofs.sine.Statement.{statement}
 use Rattle.sine.proofs.sine.Tie as tie

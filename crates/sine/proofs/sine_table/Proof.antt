@@ -3,7 +3,7 @@
 use mathlib.Core.Path.{refl}
 use Rattle.sine.specs.Sine.{unit, pi, alternating, series, sineEntry}
 use Rattle.sine.proofs.Tabulate.{tabulate}
-use Rattle.sine.proofs.SineLaws.{sine-table-of}
+use Rattle.sine.proofs.Results.{sine-table-of}
 use Rattle.sine.proofs.sine_table.Statement.{statement}
 use Rattle.sine.proofs.sine_table.Tie as tie
 

@@ -1,0 +1,3 @@
+-- `ChromaLaws` is for callers.
+pub mod ChromaLaws
+mod Examples

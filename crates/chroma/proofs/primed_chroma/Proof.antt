@@ -1,0 +1,18 @@
+-- The root of the sum of squares. Assumes nothing.
+use borrow.Author.Needs.{needs}
+use Rattle.chroma.specs.Chroma.{primedChroma}
+use Rattle.chroma.proofs.primed_chroma.Statement.{statement}
+use Rattle.chroma.proofs.primed_chroma.Tie as tie
+
+sum-of-squares-requires : tie.Need-sum-of-squares-requires
+sum-of-squares-requires c κs = search needs
+
+isqrt-requires : tie.Need-isqrt-requires
+isqrt-requires c κs = search needs
+
+returns : tie.Need-returns
+unfolding primedChroma
+returns c = cc
+
+pub primed-chroma-spec : {M : Type 1} → statement M
+primed-chroma-spec = tie.close (tie.spec sum-of-squares-requires isqrt-requires returns)

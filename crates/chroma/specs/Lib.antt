@@ -1,0 +1,2 @@
+-- What the contracts of `chroma` cite.
+pub mod Chroma

@@ -1,0 +1,3 @@
+mod Sizes
+mod Pairs
+mod Points

@@ -1,0 +1,115 @@
+-- What the hue functions say of a pair of prepared samples and their points. Assumes nothing.
+use mathlib.Core.Path.{_≡_, refl, sym, ap, _∙_, subst}
+use mathlib.Core.Bool.{Bool, true, false, _&&_, _||_, not}
+use Prim.Native.Nat.{ℕ, _+_, _≤_}
+use native.Mathlib.Nat.{le-trans}
+use lib.Dec.{eqb, lit≤}
+use lib.IntN.{pos, natAbs, _-ℤ_}
+use Rattle.signed.specs.Value.{int}
+use Rattle.signed.specs.declared.Int.{Int}
+use Rattle.hue.specs.Hue.{grey, quadrantOf}
+use Rattle.hue.proofs.HueLaws.{quadrant-grey}
+use Rattle.hue_difference.specs.HueDifference.{crossOf, oppositeOf, noHueOf, hueNegative, hueSize, hueDifferenceOf, meanHueOf}
+use Rattle.hue_difference.specs.Facts.{Primed, SideIs}
+use Rattle.hue_difference.specs.declared.Side.{Side}
+use Rattle.fixed_point.specs.declared.FixedWeights.{FixedWeights}
+use Rattle.chroma.specs.Chroma.{ratioOf}
+use Rattle.chroma.proofs.ChromaLaws.{ratio-le}
+use Rattle.weighting.specs.Weighting.{hueTerm}
+use Rattle.weighting.proofs.WeightingLaws.{lightness-weight-ge, lightness-weight-le, chroma-weight-ge, chroma-weight-le, hue-weight-ge, hue-weight-le, hue-term-le, rotation-le}
+use Rattle.difference.specs.Parts.{partsOf, combined}
+use Rattle.difference.specs.Pair.{Point, pairRatio, pairFar, pairHue, pairMeanHue, pointHue, termsOf, lightnessDifference, chromaDifference}
+use Rattle.difference.specs.Differences.{figuresFrom, terms00Of, parts00Of}
+use Rattle.difference.specs.Carried.{preparedSample, pointOf, partedOf, workedFigures, Ready, Bounded, Coloured, HueFigures}
+use Rattle.difference.specs.declared.Terms.{Terms}
+use Rattle.difference.specs.declared.Hues.{Hues}
+use Rattle.difference.specs.declared.Parted.{Parted}
+use Rattle.difference.specs.declared.Prepared.{Prepared}
+use Rattle.difference.specs.declared.Coordinates.{Coordinates}
+
+pub primed-of : {p : Coordinates} → Bounded p → Primed (p .a .n) (p .b .n) (p .chroma)
+primed-of h = record { a-le = h .a; b-le = h .b; c-le = h .chroma; a-chroma = h .a-chroma; b-chroma = h .b-chroma }
+
+-- the step 6 and 7 flags of a pair
+abbrev pub Sides : Prepared → Prepared → Side → Type 0
+Sides s t d = SideIs (int (s .a)) (int (s .b)) (int (t .a)) (int (t .b)) d
+
+or-none : (p q r : Bool) → (p || q || r) ≡ false → (p ≡ false) × (q ≡ false)
+or-none true q r e = (e, absurd-eq q e)
+  where
+    absurd-eq : (q : Bool) → true ≡ false → q ≡ false
+    absurd-eq true e = e
+    absurd-eq false e = refl
+or-none false true r e = (refl, e)
+or-none false false r e = (refl, refl)
+
+-- where there is a hue part, neither sample is grey
+pub both-coloured : (s t : Prepared) (p q : Coordinates) (d : Side) → Sides s t d → Coloured (preparedSample s) p → Coloured (preparedSample t) q
+    → d .none ≡ false → (1000 ≤ p .chroma) × (1000 ≤ q .chroma)
+unfolding preparedSample noHueOf
+both-coloured s t p q d side u v e =
+    let g = or-none _ _ _ (sym (side .none-is) ∙ e) in
+    (u .coloured (g .0), v .coloured (g .1))
+
+pub pair-hue-is : (s t : Prepared) (p q : Coordinates) {x y : Point} (d : Side) → Sides s t d → pointOf p ≡ x → pointOf q ≡ y → (r : Int)
+    → int r ≡ hueDifferenceOf (d .none) (d .negative) (hueSize (int (p .a)) (int (p .b)) (p .chroma) (int (q .a)) (int (q .b)) (q .chroma))
+    → int r ≡ pairHue (preparedSample s) (preparedSample t) x y
+unfolding preparedSample pointOf pairHue
+pair-hue-is s t p q d side u v r e =
+    e ∙ (λ i. hueDifferenceOf (side .none-is i) (side .negative-is i) (hueSize (u i .a) (u i .b) (u i .c) (v i .a) (v i .b) (v i .c)))
+
+-- the quadrant 4 is grey
+grey-is : (s : Prepared) → Ready s → eqb (s .quadrant) 4 ≡ grey (int (s .a)) (int (s .b))
+grey-is s r = ap (λ (n : ℕ). eqb n 4) (r .quadrant) ∙ sym (quadrant-grey _ _)
+
+pub pair-mean-is : (s t : Prepared) (x y : Point) → Ready s → Ready t → (g far : Bool) (h1 h2 r : ℕ) → g ≡ (eqb (s .quadrant) 4 || eqb (t .quadrant) 4)
+    → far ≡ pairFar (preparedSample s) (preparedSample t) → h1 ≡ pointHue x → h2 ≡ pointHue y → r ≡ meanHueOf g far h1 h2
+    → r ≡ pairMeanHue (preparedSample s) (preparedSample t) x y
+unfolding preparedSample pairMeanHue
+pair-mean-is s t x y u v g far h1 h2 r e f p q m =
+    m ∙ (λ i. meanHueOf ((e ∙ (λ j. grey-is s u j || grey-is t v j)) i) (f i) (p i) (q i))
+
+-- ---- the weighting functions' bounds
+pub record TermsIn (e : Terms) : Type 0 where
+  pub sl : (1000000000 ≤ e .sl) × (e .sl ≤ 11400000000)
+  pub sc : (1000000000 ≤ e .sc) × (e .sc ≤ 11400000000)
+  pub sh : (1000000000 ≤ e .sh) × (e .sh ≤ 11400000000)
+  pub r : e .r ≤ 2000000000
+
+pub terms-in : {e : Terms} (l1 l2 sum mean : ℕ) → e ≡ termsOf l1 l2 sum mean → l1 ≤ 1000000 → l2 ≤ 1000000 → sum ≤ 4615105632 → TermsIn e
+unfolding termsOf
+terms-in l1 l2 sum mean p h k s =
+    subst TermsIn (sym p)
+    (record {
+      sl = (lightness-weight-ge l1 l2, le-trans (lightness-weight-le l1 l2 h k) (lit≤ tt));
+      sc = (chroma-weight-ge sum, le-trans (chroma-weight-le sum s) (lit≤ tt));
+      sh = (hue-weight-ge sum (hueTerm mean), le-trans (hue-weight-le sum (hueTerm mean) s (hue-term-le mean)) (lit≤ tt));
+      r = rotation-le (ratioOf sum) mean (ratio-le sum);
+    })
+
+-- ---- the figures from the results of the calls
+pub worked-is : (w : FixedWeights) (s t : Prepared) (p q : Coordinates) {z : ℕ} {m : Hues} {e : Terms} (dl dc : Int) (parts : Parted) {r : ℕ} → Ready s → Ready t
+    → z ≡ pairRatio (preparedSample s) (preparedSample t) → HueFigures (preparedSample s) (preparedSample t) (pointOf p) (pointOf q) m
+    → e ≡ termsOf (s .l) (t .l) (p .chroma + q .chroma) (m .mean) → int dl ≡ pos (t .l) -ℤ pos (s .l) → int dc ≡ pos (q .chroma) -ℤ pos (p .chroma)
+    → partedOf parts ≡ partsOf (w .l) (w .c) (w .h) (int dl) (int dc) (int (m .hue)) (e .sl) (e .sc) (e .sh) → r ≡ combined (partedOf parts) (e .r)
+    → workedFigures (record { c1 = s .chroma; p1 = p; c2 = t .chroma; p2 = q; z = z; hues = m; terms = e; parts = parts; difference = r })
+    ≡ figuresFrom w (preparedSample s) (preparedSample t) (pointOf p) (pointOf q)
+unfolding workedFigures figuresFrom terms00Of parts00Of lightnessDifference chromaDifference preparedSample pointOf
+worked-is w s t p q dl dc parts u v z-is h e-is dl-is dc-is parts-is r-is =
+    let terms : _ ≡ termsOf (s .l) (t .l) (p .chroma + q .chroma) (pairMeanHue (preparedSample s) (preparedSample t) (pointOf p) (pointOf q)) = e-is ∙ ap (λ (n : ℕ). termsOf (s .l) (t .l) (p .chroma + q .chroma) n) (h .mean) in
+    let parted = parts-is ∙ (λ i. partsOf (w .l) (w .c) (w .h) (dl-is i) (dc-is i) (h .hue i) (terms i .sl) (terms i .sc) (terms i .sh)) in
+    λ i. record {
+      c1 = u .chroma i;
+      p1 = pointOf p;
+      h1 = h .h1 i;
+      c2 = v .chroma i;
+      p2 = pointOf q;
+      h2 = h .h2 i;
+      z = z-is i;
+      far = h .far i;
+      hue = h .hue i;
+      mean = h .mean i;
+      terms = terms i;
+      parts = parted i;
+      difference = (r-is ∙ (λ j. combined (parted j) (terms j .r))) i;
+    }

@@ -1,0 +1,71 @@
+use mathlib.Core.Path.{ap, _∙_}
+use Prim.Native.Nat.{ℕ, _+_, _*_, _≤_}
+use native.Mathlib.Omega.{arith}
+use Rattle.isqrt.specs.Root.{rootOf}
+use Rattle.fixed_point.specs.Samples.{labOf}
+use Rattle.difference.specs.Parts.{squared}
+use Rattle.difference.specs.Pair.{lightnessDifference}
+use Rattle.difference.specs.Differences.{cie76Of}
+use Rattle.difference.proofs.Sizes.{square-le}
+use Rattle.difference.proofs.Points.{lab-l, lab-a, lab-b}
+use borrow.Author.Needs.{needs}
+use Rattle.difference.proofs.cie76.Statement.{statement}
+use Rattle.difference.proofs.cie76.Tie as tie
+use Rattle.difference.proofs.cie76.Reads as reads
+use Rattle.difference.proofs.cie76.Lts as lts
+use Rattle.difference.proofs.sum_of_squares.Reads as sum-of-squares-reads
+use Rattle.isqrt.proofs.isqrt.Reads as isqrt-reads
+use Rattle.signed.proofs.difference.Reads as difference-reads
+use Rattle.signed.proofs.natural_difference.Reads as natural-difference-reads
+
+-- src/lib.rt:170:9
+natural-difference-requires : tie.Need-natural-difference-requires
+natural-difference-requires c κs = search needs
+
+-- src/lib.rt:171:9
+difference-requires : tie.Need-difference-requires
+difference-requires c κs = omega (arith, lab-a _ (c .before .pre .0), lab-a _ (c .before .pre .1))
+
+-- src/lib.rt:172:9
+difference-requires-2 : tie.Need-difference-requires-2
+difference-requires-2 c κs = omega (arith, lab-b _ (c .before .before .pre .0), lab-b _ (c .before .before .pre .1))
+
+-- src/lib.rt:173:26
+sizes : (c : tie.After-difference2) → (c .before .before .natural-difference .result .n ≤ 1000000) × (c .before .difference .result .n ≤ 2560000) × (c .difference2 .result .n ≤ 2560000)
+sizes c =
+    let s = c .before .before .before in (
+      omega (arith, c .before .before .natural-difference .ensures .most, lab-l _ (s .pre .0), lab-l _ (s .pre .1)),
+      omega (arith, c .before .difference .ensures .size, lab-a _ (s .pre .0), lab-a _ (s .pre .1)),
+      omega (arith, c .difference2 .ensures .size, lab-b _ (s .pre .0), lab-b _ (s .pre .1)),
+    )
+
+sum-of-squares-requires : tie.Need-sum-of-squares-requires
+sum-of-squares-requires c κs = let h = sizes c in omega arith
+
+-- src/lib.rt:173:18
+mul-isqrt : tie.Need-mul-isqrt
+mul-isqrt c = let h = sizes (c .before) in omega (arith, c .sum-of-squares .ensures .size, square-le (h .0), square-le (h .1), square-le (h .2))
+
+-- src/lib.rt:173:5
+isqrt-requires : tie.Need-isqrt-requires
+isqrt-requires c κs = search needs
+
+-- src/lib.rt:165:1
+returns : tie.Need-returns
+unfolding cie76Of lightnessDifference labOf
+returns c =
+    c .isqrt .ensures
+    ∙ ap (λ (n : ℕ). rootOf (10000 * n)) (c .before .sum-of-squares .ensures .is)
+    ∙ (λ i. rootOf (10000 * (squared (c .before .before .before .before .natural-difference .ensures .is i) + squared (c .before .before .before .difference .ensures .is i) + squared (c .before .before .difference2 .ensures .is i))))
+
+pub cie76-spec : {M : Type 1} → statement M
+cie76-spec =
+    tie.close
+    (tie.spec
+    natural-difference-requires
+    difference-requires
+    difference-requires-2
+    sum-of-squares-requires
+    mul-isqrt
+    isqrt-requires
+    returns)

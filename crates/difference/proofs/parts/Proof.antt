@@ -1,0 +1,69 @@
+use mathlib.Core.Path.{ap, _∙_}
+use Prim.Native.Nat.{ℕ}
+use native.Mathlib.Nat.{le-trans, le-of-eq}
+use native.Mathlib.Omega.{arith}
+use Rattle.signed.specs.Value.{int}
+use Rattle.difference.specs.Parts.{partOf, partsOf}
+use Rattle.difference.specs.Carried.{partedOf}
+use Rattle.difference.proofs.Sizes.{quotient-le}
+use borrow.Author.Needs.{needs}
+use Rattle.difference.proofs.parts.Statement.{statement}
+use Rattle.difference.proofs.parts.Tie as tie
+use Rattle.difference.proofs.parts.Reads as reads
+use Rattle.difference.proofs.parts.Lts as lts
+use Rattle.difference.proofs.part.Reads as part-reads
+use Rattle.difference.proofs.weight.Reads as weight-reads
+
+-- src/lib.rt:139:35
+weight-requires : tie.Need-weight-requires
+weight-requires c κs = search needs
+
+-- src/lib.rt:139:12
+part-requires : tie.Need-part-requires
+part-requires c κs = search needs
+
+-- src/lib.rt:140:32
+weight-requires-2 : tie.Need-weight-requires-2
+weight-requires-2 c κs = search needs
+
+-- src/lib.rt:140:12
+part-requires-2 : tie.Need-part-requires-2
+part-requires-2 c κs = search needs
+
+-- src/lib.rt:141:32
+weight-requires-3 : tie.Need-weight-requires-3
+weight-requires-3 c κs = search needs
+
+-- src/lib.rt:141:12
+part-requires-3 : tie.Need-part-requires-3
+part-requires-3 c κs = search needs
+
+-- src/lib.rt:130:1
+returns : tie.Need-returns
+unfolding partsOf partedOf
+returns c =
+    let s = c .before .before .before .before .before .before in
+    record {
+      is = λ i. record {
+        l = (c .before .before .before .before .part .ensures .is ∙ ap (λ (w : ℕ). partOf (int (s .args .dl)) 100000000000 w) (c .before .before .before .before .before .weight .ensures .0)) i;
+        c = (c .before .before .part2 .ensures .is ∙ ap (λ (w : ℕ). partOf (int (s .args .dc)) 100000000 w) (c .before .before .before .weight2 .ensures .0)) i;
+        h = (c .part3 .ensures .is ∙ ap (λ (w : ℕ). partOf (int (s .args .dh)) 100000000 w) (c .before .weight3 .ensures .0)) i;
+      };
+      small = record {
+        l = le-trans (le-of-eq (c .before .before .before .before .part .ensures .size)) (quotient-le _ _ 200000000 500000000 (omega (arith, c .before .before .before .before .before .weight .ensures .1)) (c .before .before .before .before .before .weight .ensures .1) (omega (arith, s .pre .1 .0 .0)));
+        c = le-trans (le-of-eq (c .before .before .part2 .ensures .size)) (quotient-le _ _ 461510564 500000000 (omega (arith, c .before .before .before .weight2 .ensures .1)) (c .before .before .before .weight2 .ensures .1) (omega (arith, s .pre .1 .0 .1 .0)));
+        h = le-trans (le-of-eq (c .part3 .ensures .size)) (quotient-le _ _ 923021127 500000000 (omega (arith, c .before .weight3 .ensures .1)) (c .before .weight3 .ensures .1) (omega (arith, s .pre .1 .0 .1 .1)));
+      };
+    }
+
+pub parts-spec : {M : Type 1} → statement M
+parts-spec =
+    tie.close
+    (tie.spec
+    weight-requires
+    part-requires
+    weight-requires-2
+    part-requires-2
+    weight-requires-3
+    part-requires-3
+    returns)

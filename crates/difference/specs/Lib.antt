@@ -1,0 +1,4 @@
+pub mod Parts
+pub mod Pair
+pub mod Differences
+pub mod Carried

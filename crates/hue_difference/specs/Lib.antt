@@ -1,0 +1,2 @@
+pub mod HueDifference
+pub mod Facts

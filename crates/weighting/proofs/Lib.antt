@@ -1,0 +1,2 @@
+pub mod WeightingLaws
+mod Examples
