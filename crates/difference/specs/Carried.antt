@@ -78,6 +78,11 @@ pub record Weight (x r : ℕ) : Type 0 where
   pub low : 1000000000 ≤ r
   pub high : r ≤ 11400000000
 
+-- d is the difference x; it has at most 32 bits, so that a double holds it exactly
+pub record Millionths (x d : ℕ) : Type 0 where
+  pub is : d ≡ x
+  pub small : d < 4294967296
+
 -- the sum of three squares
 pub record Squares (x y z : Int) (r : ℕ) : Type 0 where
   pub is : r ≡ squared (int x) + squared (int y) + squared (int z)
@@ -100,3 +105,12 @@ workedFigures r =
       parts = partedOf (r .parts);
       difference = r .difference;
     }
+
+-- r is what the working of f says, with the sizes that its signed numbers can have
+pub record Works (f : Figures) (r : Worked) : Type 0 where
+  pub is : workedFigures r ≡ f
+  pub p1 : Bounded (r .p1)
+  pub p2 : Bounded (r .p2)
+  pub hue : r .hues .hue .n ≤ 4615105632
+  pub parts : Small (r .parts)
+  pub difference : r .difference < 4294967296

@@ -11,7 +11,7 @@ ghost use Rattle.gaussian.specs.Gaussian.{GaussianTable};
 ghost use Rattle.difference.specs.Parts.{weighted, partOf, partsOf, combined};
 ghost use Rattle.difference.specs.Pair.{pairRatio, primedOf, plainOf, pairHue, termsOf};
 ghost use Rattle.difference.specs.Differences.{cie76Of, chromaWeight94, hueWeight94, parts94Of, cie94Of, figuresFrom, figuresOf, ciede2000Of};
-ghost use Rattle.difference.specs.Carried.{preparedSample, pointOf, partedOf, workedFigures, Ready, Prepares, Coloured, Stands, HueFigures, Small, Parting, Squares, Weight};
+ghost use Rattle.difference.specs.Carried.{preparedSample, pointOf, partedOf, Ready, Prepares, Coloured, Stands, HueFigures, Small, Parting, Squares, Weight, Millionths, Works};
 use fixed_point::FixedWeights;
 use fixed_point::Lab;
 use hue_difference::Side;
@@ -161,7 +161,7 @@ fn sum_of_squares(x: Int, y: Int, z: Int) -> u64
 fn root_of_parts(p: Parted, r: u64) -> u64
     requires { ⌜ Small p ⌝ }
     requires { ⌜ r ≤ 2000000000 ⌝ }
-    ensures { λ d. ⌜ d ≡ combined (partedOf p) r ⌝ }
+    ensures { λ d. ⌜ Millionths (combined (partedOf p) r) d ⌝ }
 {
     let turned = signed::product(p.c, signed::divided(signed::scaled(p.h, r), 1000000000));
     let sum = signed::natural(sum_of_squares(p.l, p.c, p.h));
@@ -171,7 +171,7 @@ fn root_of_parts(p: Parted, r: u64) -> u64
 pub fn cie76(s: Lab, t: Lab) -> u64
     requires { ⌜ SampleIn (labOf s) ⌝ }
     requires { ⌜ SampleIn (labOf t) ⌝ }
-    ensures { λ r. ⌜ r ≡ cie76Of (labOf s) (labOf t) ⌝ }
+    ensures { λ r. ⌜ Millionths (cie76Of (labOf s) (labOf t)) r ⌝ }
 {
     let l = signed::natural_difference(t.l, s.l);
     let a = signed::difference(t.a, s.a);
@@ -241,7 +241,7 @@ pub fn cie94(w: FixedWeights, textile: bool, s: Prepared, t: Prepared) -> u64
     requires { ⌜ WeightsIn w ⌝ }
     requires { ⌜ Ready s ⌝ }
     requires { ⌜ Ready t ⌝ }
-    ensures { λ r. ⌜ r ≡ cie94Of textile w (preparedSample s) (preparedSample t) ⌝ }
+    ensures { λ r. ⌜ Millionths (cie94Of textile w (preparedSample s) (preparedSample t)) r ⌝ }
 {
     root_of_parts(parts94(w, textile, s, t), 0)
 }
@@ -322,7 +322,7 @@ fn worked_from(
     requires { ⌜ (WeightsIn w) × ((Ready s) × (Ready t)) ⌝ }
     requires { ⌜ z ≡ pairRatio (preparedSample s) (preparedSample t) ⌝ }
     requires { ⌜ (Coloured (preparedSample s) p) × (Coloured (preparedSample t) q) ⌝ }
-    ensures { λ r. ⌜ workedFigures r ≡ figuresFrom w (preparedSample s) (preparedSample t) (pointOf p) (pointOf q) ⌝ }
+    ensures { λ r. ⌜ Works (figuresFrom w (preparedSample s) (preparedSample t) (pointOf p) (pointOf q)) r ⌝ }
 {
     let hues = hue_figures(sines, s, t, p, q);
     let terms = weighting_terms(sines, gaussians, s.l, t.l, p.chroma + q.chroma, hues.mean);
@@ -352,7 +352,7 @@ pub fn figures(
 ) -> Worked
     requires { ⌜ (SineTable (now sines)) × (GaussianTable (now gaussians)) ⌝ }
     requires { ⌜ (WeightsIn w) × ((Ready s) × (Ready t)) ⌝ }
-    ensures { λ r. ⌜ workedFigures r ≡ figuresOf w (preparedSample s) (preparedSample t) ⌝ }
+    ensures { λ r. ⌜ Works (figuresOf w (preparedSample s) (preparedSample t)) r ⌝ }
 {
     let z = chroma::ratio(s.chroma + t.chroma);
     worked_from(sines, gaussians, w, s, t, z, primed(s, z), primed(t, z))
@@ -367,7 +367,7 @@ pub fn ciede2000(
 ) -> u64
     requires { ⌜ (SineTable (now sines)) × (GaussianTable (now gaussians)) ⌝ }
     requires { ⌜ (WeightsIn w) × ((Ready s) × (Ready t)) ⌝ }
-    ensures { λ r. ⌜ r ≡ ciede2000Of w (preparedSample s) (preparedSample t) ⌝ }
+    ensures { λ r. ⌜ Millionths (ciede2000Of w (preparedSample s) (preparedSample t)) r ⌝ }
 {
     let r = figures(sines, gaussians, w, s, t);
     r.difference

@@ -1,5 +1,6 @@
-use mathlib.Core.Path.{ap, _∙_}
-use Prim.Native.Nat.{ℕ, _+_, _*_, _≤_}
+use Rattle.isqrt.proofs.RootLaws.{root-lt-pow}
+use mathlib.Core.Path.{sym, ap, _∙_, subst}
+use Prim.Native.Nat.{ℕ, _+_, _*_, _≤_, _<_}
 use native.Mathlib.Omega.{arith}
 use Rattle.isqrt.specs.Root.{rootOf}
 use Rattle.fixed_point.specs.Samples.{labOf}
@@ -54,9 +55,13 @@ isqrt-requires c κs = search needs
 returns : tie.Need-returns
 unfolding cie76Of lightnessDifference labOf
 returns c =
-    c .isqrt .ensures
-    ∙ ap (λ (n : ℕ). rootOf (10000 * n)) (c .before .sum-of-squares .ensures .is)
-    ∙ (λ i. rootOf (10000 * (squared (c .before .before .before .before .natural-difference .ensures .is i) + squared (c .before .before .before .difference .ensures .is i) + squared (c .before .before .difference2 .ensures .is i))))
+    record {
+      is =
+          c .isqrt .ensures
+          ∙ ap (λ (n : ℕ). rootOf (10000 * n)) (c .before .sum-of-squares .ensures .is)
+          ∙ (λ i. rootOf (10000 * (squared (c .before .before .before .before .natural-difference .ensures .is i) + squared (c .before .before .before .difference .ensures .is i) + squared (c .before .before .difference2 .ensures .is i))));
+      small = subst (λ (n : ℕ). n < 4294967296) (sym (c .isqrt .ensures)) (root-lt-pow _ (mul-isqrt (c .before) .fits));
+    }
 
 pub cie76-spec : {M : Type 1} → statement M
 cie76-spec =

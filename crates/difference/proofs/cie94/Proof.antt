@@ -20,7 +20,7 @@ root-of-parts-requires c κs = search needs
 -- src/lib.rt:212:1
 returns : tie.Need-returns
 unfolding cie94Of
-returns c = c .root-of-parts .ensures ∙ ap (λ (p : Parts). combined p 0) (c .before .parts94 .ensures .is)
+returns c = record { is = c .root-of-parts .ensures .is ∙ ap (λ (p : Parts). combined p 0) (c .before .parts94 .ensures .is); small = c .root-of-parts .ensures .small }
 
 pub cie94-spec : {M : Type 1} → statement M
 cie94-spec = tie.close (tie.spec parts94-requires root-of-parts-requires returns)

@@ -15,7 +15,7 @@ figures-requires c κs = search needs
 -- src/lib.rt:318:1
 returns : tie.Need-returns
 unfolding ciede2000Of workedFigures
-returns c = ap (λ (f : Figures). f .difference) (c .figures .ensures)
+returns c = record { is = ap (λ (f : Figures). f .difference) (c .figures .ensures .is); small = c .figures .ensures .difference }
 
 pub ciede2000-spec : {M : Type 1} → statement M
 ciede2000-spec = tie.close (tie.spec figures-requires returns)

@@ -51,9 +51,17 @@ unfolding figuresOf
 returns c =
     let s = c .before .before .before .before .before .before in
     let z = ratio-is (c .before .before .before) in
-    c .worked-from .ensures
-    ∙ (λ i. figuresFrom (s .args .w) (preparedSample (s .args .s)) (preparedSample (s .args .t)) ((c .before .before .primed .ensures .is ∙ ap (λ (n : ℕ). primedOf n (preparedSample (s .args .s))) z) i)
-    ((c .before .primed2 .ensures .is ∙ ap (λ (n : ℕ). primedOf n (preparedSample (s .args .t))) z) i))
+    let r = c .worked-from .ensures in
+    record {
+      is = r .is
+          ∙ (λ i. figuresFrom (s .args .w) (preparedSample (s .args .s)) (preparedSample (s .args .t)) ((c .before .before .primed .ensures .is ∙ ap (λ (n : ℕ). primedOf n (preparedSample (s .args .s))) z) i)
+          ((c .before .primed2 .ensures .is ∙ ap (λ (n : ℕ). primedOf n (preparedSample (s .args .t))) z) i));
+      p1 = r .p1;
+      p2 = r .p2;
+      hue = r .hue;
+      parts = r .parts;
+      difference = r .difference;
+    }
 
 pub figures-spec : {M : Type 1} → statement M
 figures-spec =

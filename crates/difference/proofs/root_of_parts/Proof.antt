@@ -1,5 +1,6 @@
-use mathlib.Core.Path.{ap, _∙_}
-use Prim.Native.Nat.{_≤_}
+use Rattle.isqrt.proofs.RootLaws.{root-lt-pow}
+use mathlib.Core.Path.{sym, ap, _∙_, subst}
+use Prim.Native.Nat.{ℕ, _≤_, _<_}
 use native.Mathlib.Nat.{mul-le-mul}
 use native.Mathlib.Omega.{arith}
 use lib.IntN.{ℤ, pos, natAbs, _-ℤ_, _*ℤ_}
@@ -78,7 +79,10 @@ returns c =
     let turn = c .before .before .before .before .before .before .divided .ensures .is ∙ ap (λ (x : ℤ). quotZ x (pos 1000000000)) (c .before .before .before .before .before .before .before .scaled .ensures .is) in
     let turned = c .before .before .before .before .before .product .ensures .is ∙ ap (λ (x : ℤ). int (s .args .p .c) *ℤ x) turn in
     let sum = c .before .before .before .natural .ensures .is ∙ ap pos (c .before .before .before .before .sum-of-squares .ensures .is) in
-    c .isqrt .ensures ∙ ap rootOf (c .before .size .ensures .is ∙ ap natAbs (c .before .before .difference .ensures .is ∙ (λ i. sum i -ℤ turned i)))
+    record {
+      is = c .isqrt .ensures ∙ ap rootOf (c .before .size .ensures .is ∙ ap natAbs (c .before .before .difference .ensures .is ∙ (λ i. sum i -ℤ turned i)));
+      small = subst (λ (n : ℕ). n < 4294967296) (sym (c .isqrt .ensures)) (root-lt-pow _ (omega (arith, c .before .size .ensures .size, c .before .before .difference .ensures .size, difference-requires (c .before .before .before) (c .before .before .difference .lifetimes))));
+    }
 
 pub root-of-parts-spec : {M : Type 1} → statement M
 root-of-parts-spec =

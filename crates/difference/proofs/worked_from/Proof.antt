@@ -64,8 +64,16 @@ returns : tie.Need-returns
 returns c =
     let s = c .before .before .before .before .before .before .before .before in
     let m = c .before .before .before .before .before .before .before .hue-figures .ensures in
-    worked-is (s .args .w) (s .args .s) (s .args .t) (s .args .p) (s .args .q) _ _ _ (s .pre .1 .0 .1 .0) (s .pre .1 .0 .1 .1) (s .pre .1 .1 .0) m (c .before .before .before .before .weighting-terms .ensures)
-    (c .before .before .before .natural-difference .ensures .is) (c .before .before .natural-difference2 .ensures .is) (c .before .parts .ensures .is) (c .root-of-parts .ensures)
+    record {
+      is =
+          worked-is (s .args .w) (s .args .s) (s .args .t) (s .args .p) (s .args .q) _ _ _ (s .pre .1 .0 .1 .0) (s .pre .1 .0 .1 .1) (s .pre .1 .1 .0) m (c .before .before .before .before .weighting-terms .ensures)
+          (c .before .before .before .natural-difference .ensures .is) (c .before .before .natural-difference2 .ensures .is) (c .before .parts .ensures .is) (c .root-of-parts .ensures .is);
+      p1 = s .pre .1 .1 .1 .0 .bounded;
+      p2 = s .pre .1 .1 .1 .1 .bounded;
+      hue = m .hue-size;
+      parts = c .before .parts .ensures .small;
+      difference = c .root-of-parts .ensures .small;
+    }
 
 pub worked-from-spec : {M : Type 1} → statement M
 worked-from-spec =
