@@ -1,6 +1,7 @@
 -- The three differences of paper 01 in whole numbers of 10^-6, sample 1 being the standard, and the figures on the way to CIEDE2000.
 use Prim.Native.Nat.{ℕ, _+_, _*_, _/_}
 use mathlib.Core.Bool.{Bool, cond}
+use lib.Dec.{leb}
 use lib.IntN.{ℤ, pos, _-ℤ_}
 use Rattle.isqrt.specs.Root.{rootOf}
 use Rattle.fixed_point.specs.Samples.{Sample}
@@ -76,3 +77,7 @@ figuresOf w s t = figuresFrom w s t (primedOf (pairRatio s t) s) (primedOf (pair
 
 unfoldable pub ciede2000Of : FixedWeights → Sample → Sample → ℕ
 ciede2000Of w s t = figuresOf w s t .difference
+
+-- the verdict's rule: millionths ≤ 100 × the tolerance in 1/10,000
+unfoldable pub withinTolerance : ℕ → ℕ → Bool
+withinTolerance millionths tolerance = leb millionths (100 * tolerance)

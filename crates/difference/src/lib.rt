@@ -10,7 +10,7 @@ ghost use Rattle.sine.specs.Sine.{SineTable};
 ghost use Rattle.gaussian.specs.Gaussian.{GaussianTable};
 ghost use Rattle.difference.specs.Parts.{weighted, partOf, partsOf, combined};
 ghost use Rattle.difference.specs.Pair.{pairRatio, primedOf, plainOf, pairHue, termsOf};
-ghost use Rattle.difference.specs.Differences.{cie76Of, chromaWeight94, hueWeight94, parts94Of, cie94Of, figuresFrom, figuresOf, ciede2000Of};
+ghost use Rattle.difference.specs.Differences.{cie76Of, chromaWeight94, hueWeight94, parts94Of, cie94Of, figuresFrom, figuresOf, ciede2000Of, withinTolerance};
 ghost use Rattle.difference.specs.Carried.{preparedSample, pointOf, partedOf, Ready, Prepares, Coloured, Stands, HueFigures, Small, Parting, Squares, Weight, Millionths, Works};
 use fixed_point::FixedWeights;
 use fixed_point::Lab;
@@ -371,4 +371,12 @@ pub fn ciede2000(
 {
     let r = figures(sines, gaussians, w, s, t);
     r.difference
+}
+
+// Whether a difference in millionths is within a tolerance in 1/10,000.
+pub fn within_tolerance(millionths: u64, tolerance: u64) -> bool
+    requires { ⌜ tolerance ≤ 1000000 ⌝ }
+    ensures { λ r. ⌜ r ≡ withinTolerance millionths tolerance ⌝ }
+{
+    millionths <= 100 * tolerance
 }

@@ -7,6 +7,7 @@ use native.Mathlib.Omega.{arith}
 use native.Mathlib.Decide.{decLe}
 use mathlib.Core.Logic.{_⊎_, inl, inr}
 use mathlib.Core.Bool.{Bool, true, false, not, _&&_, _||_, cond}
+use mathlib.Core.List.{List, [], _∷_}
 use lib.IntN.{ℤ, pos, negsuc, negℤ, natAbs}
 use lib.Dec.{T, ltb, eqb, ltb→lt, eqb→eq}
 use lib.Ieee.{Float, nan, inf, fin, up, down, le, lt}
@@ -17,7 +18,7 @@ use borrow.Author.Tests.{lt-ltb, le-ltb, ltb-false}
 use Rattle.signed.specs.Value.{withSign}
 use Rattle.fixed_point.specs.Limits.{within, lightnessIn, opponentIn, weightIn, toleranceIn, AtMost}
 use Rattle.fixed_point.specs.Rounding.{halfOf, nearestOf, fixedSize, fixedOf}
-use Rattle.fixed_point.specs.Refusals.{readingRefusal, weightsRefusal, toleranceRefusal, firstOf}
+use Rattle.fixed_point.specs.Refusals.{readingRefusal, weightsRefusal, toleranceRefusal, firstOf, firstRefusal}
 use Rattle.fixed_point.specs.Samples.{Sample, sampleOf, weightsOf, SampleIn, WeightIn, WeightsIn}
 use Rattle.fixed_point.specs.declared.Reading.{Reading}
 use Rattle.fixed_point.specs.declared.Weights.{Weights}
@@ -298,3 +299,16 @@ first-none (suc m) n e = absurd (suc-not-zero e)
   where
     suc-not-zero : {n : ℕ} → suc n ≡ 0 → ⊥
     suc-not-zero {n} h = omega arith
+
+pub first-last : (n : ℕ) → firstRefusal (n ∷ []) ≡ n
+unfolding firstRefusal
+first-last zero = refl
+first-last (suc n) = refl
+
+pub first-cons : (n : ℕ) (ns : List ℕ) → firstRefusal (n ∷ ns) ≡ firstOf n (firstRefusal ns)
+unfolding firstRefusal
+first-cons n ns = refl
+
+-- no refusal at all: none of the first, and none of the others
+pub none-of : (n : ℕ) (ns : List ℕ) → firstRefusal (n ∷ ns) ≡ 0 → (n ≡ 0) × (firstRefusal ns ≡ 0)
+none-of n ns e = first-none n (firstRefusal ns) (sym (first-cons n ns) ∙ e)

@@ -1,0 +1,73 @@
+-- The places of a deck, counted from 0: which of them satisfy a test, how many, and what a column holds at them.
+-- A test goes from places to truth values and a column from places to numbers, so that nothing here depends on how a deck is kept.
+use mathlib.Core.Path.{_≡_}
+use mathlib.Core.Bool.{Bool, true, cond, _&&_}
+use mathlib.Core.List.{List, [], _∷_}
+use Prim.Native.Nat.{ℕ, zero, suc, _+_, _-_, _≤_, _<_}
+use lib.IntN.{ℤ, pos}
+use lib.ListN.{length, getD}
+use lib.Signed.{ltZ, leZ}
+
+-- ---- tests
+
+-- x in front of xs where t is true
+unfoldable pub keep : Bool → ℕ → List ℕ → List ℕ
+keep t x xs = cond t (x ∷ xs) xs
+
+-- the n places from p on at which f holds, in rising order
+unfoldable pub hits : (ℕ → Bool) → ℕ → ℕ → List ℕ
+hits f p zero = []
+hits f p (suc n) = keep (f p) p (hits f (suc p) n)
+
+-- the places below n at which f holds, in rising order
+unfoldable pub matchesOf : (ℕ → Bool) → ℕ → List ℕ
+matchesOf f n = hits f 0 n
+
+-- how many places below n satisfy f, counted without a list
+unfoldable pub tally : (ℕ → Bool) → ℕ → ℕ
+tally f zero = 0
+tally f (suc n) = tally f n + cond (f n) 1 0
+
+-- f holds at each place below n
+unfoldable pub every : (ℕ → Bool) → ℕ → Bool
+every f zero = true
+every f (suc n) = every f n && f n
+
+-- ---- columns
+
+-- what a column kept as a list holds at a place
+abbrev pub at : List ℤ → ℕ → ℤ
+at xs k = getD xs k (pos 0)
+
+-- low ≤ x ≤ high
+unfoldable pub within : ℤ → ℤ → ℤ → Bool
+within low high x = leZ low x && leZ x high
+
+-- of the n places of g, none holds less than the place before it
+unfoldable pub rising : (ℕ → ℤ) → ℕ → Bool
+rising g n = every (λ k. leZ (g k) (g (suc k))) (n - 1)
+
+-- of the n places of g, those before r hold less than the bound, and the others at least the bound
+pub record Split (g : ℕ → ℤ) (n : ℕ) (bound : ℤ) (r : ℕ) : Type 0 where
+  pub size : r ≤ n
+  pub below : (k : ℕ) → k < r → ltZ (g k) bound ≡ true
+  pub above : (k : ℕ) → r ≤ k → k < n → leZ bound (g k) ≡ true
+
+-- ---- a list of places
+
+-- k is one of the entries of xs, and stands at `index`
+pub record Among (k : ℕ) (xs : List ℕ) : Type 0 where
+  pub index : ℕ
+  pub inside : index < length xs
+  pub is : getD xs index 0 ≡ k
+
+-- xs lists the places below n at which f holds
+pub record Listed (f : ℕ → Bool) (n : ℕ) (xs : List ℕ) : Type 0 where
+  -- a place is listed exactly when f holds there
+  pub sound : (i : ℕ) → i < length xs → f (getD xs i 0) ≡ true
+  pub complete : (k : ℕ) → k < n → f k ≡ true → Among k xs
+  -- each listed place is below n, and they rise, so that each is listed once
+  pub inside : (i : ℕ) → i < length xs → getD xs i 0 < n
+  pub rises : (i j : ℕ) → i < j → j < length xs → getD xs i 0 < getD xs j 0
+  -- their number
+  pub count : length xs ≡ tally f n
