@@ -2,14 +2,14 @@
 -- of the samples does to each, equal samples, and the bounds.
 -- Assumes nothing.
 use mathlib.Core.Path.{_≡_, refl, sym, ap, ap₂, _∙_}
-use mathlib.Core.Bool.{Bool, true, false, cond, not, _&&_, _||_, true≢false, false≢true, and-comm, and-false, or-comm, or-true, or-false}
+use mathlib.Core.Bool.{Bool, true, false, cond, not, _&&_, false≢true, and-comm, and-false, or-comm, or-true, or-false}
 use mathlib.Core.Logic.{_↔_, _⊎_, inl, inr, ⊎-elim}
-use Prim.Native.Nat.{ℕ, zero, suc, _+_, _-_, _/_, _≤_, _<_, zero-le}
+use Prim.Native.Nat.{ℕ, _+_, _-_, _/_, _≤_, _<_, zero-le}
 use native.Mathlib.Nat.{le-refl, add-comm, mul-comm}
 use native.Mathlib.Omega.{arith}
-use borrow.Author.Tests.{lt-ltb, le-ltb, eq-eqb, ne-eqb, ltb-true, ltb-false, eqb-true, eqb-false, not-true}
+use borrow.Author.Tests.{le-ltb, eq-eqb, ltb-true}
 use lib.Dec.{ltb, eqb}
-use lib.IntN.{ℤ, pos, negsuc, negℤ, natAbs, _+ℤ_, _*ℤ_, negℤ-negℤ, +ℤ-invr, *ℤ-comm, *ℤ-zero, zero-*ℤ}
+use lib.IntN.{ℤ, pos, negℤ, natAbs, _+ℤ_, _*ℤ_, +ℤ-invr, *ℤ-comm, *ℤ-zero, zero-*ℤ}
 use lib.Signed.{ltZ}
 use Rattle.signed.specs.Value.{withSign}
 use Rattle.signed.proofs.SignedLaws.{natAbs-neg, neg-sub, lt-neg, lt-neg-pos}
@@ -17,64 +17,10 @@ use Rattle.hue.specs.Hue.{grey, quadrantOf}
 use Rattle.hue.proofs.HueLaws.{grey-zero}
 use Rattle.hue_difference.specs.Facts.{Primed}
 use Rattle.hue_difference.specs.HueDifference.{crossOf, laterIn, secondLater, firstLater, farOf, oppositeOf, noHueOf, hueNegative, dotOf, hueSize, hueDifferenceOf, meanHueOf}
+use Rattle.hue_difference.proofs.Signs.{opposite-parts, hue-parts, eqb-comm, ltb-other, sign-other, size-zero, sign-not, either-of}
 use Rattle.hue_difference.proofs.Sizes as sizes
 
--- ---- of tests
-
-and-right : (s t : Bool) → s && t ≡ true → t ≡ true
-and-right true t e = e
-and-right false t e = absurd (false≢true e)
-
-and-left : (s t : Bool) → s && t ≡ true → s ≡ true
-and-left true t e = refl
-and-left false t e = e
-
--- what `oppositeOf` says of X and of the quadrants
-opposite-parts : (g1 g2 z q : Bool) → (not g1 && not g2 && z && not q) ≡ true → (z ≡ true) × (q ≡ false)
-opposite-parts true g2 z q e = absurd (false≢true e)
-opposite-parts false true z q e = absurd (false≢true e)
-opposite-parts false false z q e = (and-left z (not q) e, not-true q (and-right z (not q) e))
-
--- what is left where `noHueOf` fails
-hue-parts : (g1 g2 z o : Bool) → (g1 || g2 || (z && not o)) ≡ false → (g1 ≡ false) × (g2 ≡ false) × (o ≡ false → z ≡ false)
-hue-parts true g2 z o e = absurd (true≢false e)
-hue-parts false true z o e = absurd (true≢false e)
-hue-parts false false false o e = (refl, refl, λ h. refl)
-hue-parts false false true o e = (refl, refl, λ h. absurd (true≢false (sym (ap not h) ∙ e)))
-
-eqb-comm : (m n : ℕ) → eqb m n ≡ eqb n m
-eqb-comm m n = by-test (eqb m n) refl
-  where
-    by-test : (t : Bool) → eqb m n ≡ t → eqb m n ≡ eqb n m
-    by-test true e = e ∙ sym (eq-eqb n m (sym (eqb-true m n e)))
-    by-test false e = e ∙ sym (ne-eqb n m (λ h. eqb-false m n e (sym h)))
-
--- of two different numbers one is less
-ltb-other : (m n : ℕ) → eqb m n ≡ false → ltb n m ≡ not (ltb m n)
-ltb-other m n d = by-test (ltb m n) refl
-  where
-    by-test : (t : Bool) → ltb m n ≡ t → ltb n m ≡ not (ltb m n)
-    by-test true e = le-ltb n m (omega (arith, ltb-true m n e)) ∙ sym (ap not e)
-    by-test false e = lt-ltb n m (omega (arith, ltb-false m n e, eqb-false m n d)) ∙ sym (ap not e)
-
--- a number that is not 0 has one of the two signs
-sign-other : (x : ℤ) → eqb (natAbs x) 0 ≡ false → ltZ (pos 0) x ≡ not (ltZ x (pos 0))
-sign-other (pos zero) e = absurd (true≢false e)
-sign-other (pos (suc n)) e = rw (lt-ltb 0 (suc n) (omega arith), le-ltb (suc n) 0 zero-le)
-sign-other (negsuc n) e = refl
-
-size-zero : (x : ℤ) → eqb (natAbs x) 0 ≡ true → x ≡ pos 0
-size-zero (pos n) e = ap pos (eqb-true n 0 e)
-size-zero (negsuc n) e = absurd (none n (eqb-true (suc n) 0 e))
-  where
-    none : (n : ℕ) → suc n ≡ 0 → ⊥
-    none n e = omega arith
-
-sign-not : (s : Bool) (n : ℕ) → withSign (not s) n ≡ negℤ (withSign s n)
-sign-not false n = refl
-sign-not true n = sym (negℤ-negℤ (pos n))
-
--- ---- bounds
+-- ---- H by its size and its sign
 
 -- the size of H, in 10^-7, is at most 4615105632
 pub hue-size-le :
@@ -90,6 +36,7 @@ hue-difference-le true negative size = zero-le
 hue-difference-le false false size = le-refl size
 hue-difference-le false true size = rw (natAbs-neg (pos size)) (le-refl size)
 
+-- H is 0 where there is none
 pub hue-difference-none : (negative : Bool) (size : ℕ) → hueDifferenceOf true negative size ≡ pos 0
 unfolding hueDifferenceOf
 hue-difference-none negative size = refl
@@ -98,18 +45,13 @@ pub hue-difference-some : (negative : Bool) (size : ℕ) → hueDifferenceOf fal
 unfolding hueDifferenceOf
 hue-difference-some negative size = refl
 
--- H is below 0 exactly where `negative` says so
+-- and below 0 exactly where `negative` says so
 pub hue-difference-sign : (negative : Bool) (size : ℕ) → 0 < size → ltZ (hueDifferenceOf false negative size) (pos 0) ≡ negative
 unfolding hueDifferenceOf
 hue-difference-sign false size h = le-ltb size 0 zero-le
 hue-difference-sign true size h = lt-neg-pos size 0 h
 
 -- ---- the side is exact: the pair is far exactly when sample 2 is later and X < 0, or sample 1 is later and X > 0
-
-either-of : (s t u v : Bool) → ((s && t) || (u && v)) ≡ true → ((s ≡ true) × (t ≡ true)) ⊎ ((u ≡ true) × (v ≡ true))
-either-of true true u v e = inl (refl, refl)
-either-of true false u v e = inr (and-left u v e, and-right u v e)
-either-of false t u v e = inr (and-left u v e, and-right u v e)
 
 module _ (a1 b1 a2 b2 : ℤ) where
   pub far-is :
@@ -130,6 +72,7 @@ module _ (a1 b1 a2 b2 : ℤ) where
   unfolding oppositeOf
   opposed e = opposite-parts (grey a1 b1) (grey a2 b2) _ _ e
 
+  -- exactly opposite hues have X = 0, so they are not far
   pub opposite-cross : oppositeOf a1 b1 a2 b2 ≡ true → crossOf a1 b1 a2 b2 ≡ pos 0
   opposite-cross e = size-zero (crossOf a1 b1 a2 b2) (opposed e .0)
 
@@ -150,7 +93,7 @@ module _ (a1 b1 a2 b2 : ℤ) where
   unfolding hueNegative
   opposite-sign e = rw e
 
-  -- where H is not 0: neither sample is grey, and X is not 0 unless the hues are opposite
+  -- where step 7 does not make H 0: neither sample is grey, and X is not 0 unless the hues are opposite
   hued : noHueOf a1 b1 a2 b2 ≡ false → (grey a1 b1 ≡ false) × (grey a2 b2 ≡ false) × (oppositeOf a1 b1 a2 b2 ≡ false → eqb (natAbs (crossOf a1 b1 a2 b2)) 0 ≡ false)
   unfolding noHueOf
   hued e = hue-parts (grey a1 b1) (grey a2 b2) _ (oppositeOf a1 b1 a2 b2) e
@@ -160,6 +103,7 @@ module _ (a1 b1 a2 b2 : ℤ) where
 
   -- ---- the exchange of the samples: X, the order and the sign of H turn round, and all else stays
 
+  -- X changes its sign
   pub cross-swap : crossOf a2 b2 a1 b1 ≡ negℤ (crossOf a1 b1 a2 b2)
   unfolding crossOf
   cross-swap = sym (neg-sub (a1 *ℤ b2) (a2 *ℤ b1))
@@ -173,10 +117,12 @@ module _ (a1 b1 a2 b2 : ℤ) where
   below-swap : ltZ (crossOf a2 b2 a1 b1) (pos 0) ≡ ltZ (pos 0) (crossOf a1 b1 a2 b2)
   below-swap = ap (λ x. ltZ x (pos 0)) cross-swap ∙ lt-neg (crossOf a1 b1 a2 b2) (pos 0)
 
+  -- d stays
   pub dot-swap : dotOf a2 b2 a1 b1 ≡ dotOf a1 b1 a2 b2
   unfolding dotOf
   dot-swap = ap₂ _+ℤ_ (*ℤ-comm a2 a1) (*ℤ-comm b2 b1)
 
+  -- what was the first sample is now the second
   pub later-swap : secondLater a2 b2 a1 b1 ≡ firstLater a1 b1 a2 b2
   unfolding secondLater firstLater
   later-swap = ap (laterIn (quadrantOf a2 b2) (quadrantOf a1 b1)) above-swap
@@ -185,6 +131,7 @@ module _ (a1 b1 a2 b2 : ℤ) where
   unfolding secondLater firstLater
   earlier-swap = ap (laterIn (quadrantOf a1 b1) (quadrantOf a2 b2)) below-swap
 
+  -- far, opposite and none stay
   pub far-swap : farOf a2 b2 a1 b1 ≡ farOf a1 b1 a2 b2
   unfolding farOf
   far-swap =
@@ -207,10 +154,12 @@ module _ (a1 b1 a2 b2 : ℤ) where
   by-opposite true e h = ap not (later-swap ∙ opposite-later e)
   by-opposite false e h = below-swap ∙ sign-other (crossOf a1 b1 a2 b2) (hued h .2 e)
 
+  -- the sign of H turns round, wherever step 7 does not make H 0; also of exactly opposite hues
   pub hue-negative-swap : noHueOf a1 b1 a2 b2 ≡ false → hueNegative a2 b2 a1 b1 ≡ not (hueNegative a1 b1 a2 b2)
   unfolding hueNegative
   hue-negative-swap h = rw opposite-swap (by-opposite (oppositeOf a1 b1 a2 b2) refl h)
 
+  -- the size of H stays
   pub hue-size-swap : (c1 c2 : ℕ) → hueSize a2 b2 c2 a1 b1 c1 ≡ hueSize a1 b1 c1 a2 b2 c2
   unfolding hueSize
   hue-size-swap c1 c2 = rw (dot-swap, cross-size-swap, mul-comm c2 c1)
@@ -240,6 +189,7 @@ hue-difference-swap a1 b1 a2 b2 a1' b1' a2' b2' c1' c2' =
     rw (no-hue-swap a1 b1 a2 b2, hue-size-swap a1' b1' a2' b2' c1' c2')
     (by-none a1 b1 a2 b2 (noHueOf a1 b1 a2 b2) (hueSize a1' b1' c1' a2' b2' c2') refl)
 
+-- the mean hue stays
 pub mean-hue-swap : (g far : Bool) (h1 h2 : ℕ) → meanHueOf g far h2 h1 ≡ meanHueOf g far h1 h2
 unfolding meanHueOf
 mean-hue-swap g far h1 h2 = rw (add-comm h2 h1)

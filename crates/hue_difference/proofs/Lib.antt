@@ -1,4 +1,5 @@
--- `HueDifferenceLaws` is for callers; `Sizes` is for it and for the proofs of this crate's functions.
+-- `HueDifferenceLaws` is for callers; `Signs` and `Sizes` are for it and for the proofs of this crate's functions.
 pub mod HueDifferenceLaws
+mod Signs
 mod Sizes
 pub mod Examples

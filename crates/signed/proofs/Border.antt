@@ -89,3 +89,7 @@ of-natural (negsuc n) h = absurd (true≢false h)
 -- of what was read back
 pub of-read : {x y : ℤ} {r : Int} → y ≡ x → Exactly y (natAbs y) r → Exactly x (natAbs x) r
 of-read {r = r} e h = subst (λ z. Exactly z (natAbs z) r) e h
+
+-- what a caller reads of a signed result that is a: a itself
+pub read-back : (w : Width) {r : ℤ} (a : Int) → r ≡ int a → a .n < 2 ^ hbits w → toZ w (ofZ w r) ≡ int a
+read-back w a e h = ap (λ (z : ℤ). toZ w (ofZ w z)) e ∙ toZ-ofZ w (int a) (int-fits w a h)
