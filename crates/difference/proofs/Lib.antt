@@ -1,3 +1,10 @@
 mod Sizes
 mod Pairs
 mod Points
+-- What holds of the three differences, for all samples: theorems for readers and callers.
+pub mod Symmetry
+pub mod Zero
+pub mod LightnessBound
+pub mod ResultBounds
+pub mod HueSide
+pub mod Examples

@@ -5,12 +5,14 @@ use mathlib.Core.List.{[], _∷_}
 use Prim.Native.Nat.{ℕ, zero, suc, _*_, _≤_}
 use lib.Ieee.{Float}
 use Rattle.fixed_point.specs.Refusals.{readingRefusal, weightsRefusal, toleranceRefusal, firstOf, firstRefusal}
-use Rattle.fixed_point.specs.Samples.{Sample, sampleOf, labOf, SampleIn}
+use Rattle.fixed_point.specs.Samples.{sampleOf, labOf, weightsOf, SampleIn}
 use Rattle.fixed_point.specs.declared.Reading.{Reading}
 use Rattle.fixed_point.specs.declared.Weights.{Weights}
 use Rattle.fixed_point.specs.declared.Lab.{Lab}
 use Rattle.fixed_point.proofs.FixedLaws.{first-last, first-cons, none-of, sample-in}
-use Rattle.difference.specs.Differences.{Figures}
+use Rattle.difference.specs.Differences.{Figures, ciede2000Of}
+use Rattle.difference.proofs.Symmetry.{ciede2000-symmetric}
+use Rattle.difference.proofs.Zero.{ciede2000-equal}
 use Rattle.measure.specs.Answers.{doubleOf, answerOf, yesOf, figureList, noFigures, figuresAnswer}
 use Rattle.measure.specs.Calls.{pairRefusal, weightedRefusal, verdictRefusal}
 use Rattle.measure.specs.declared.Difference.{Difference}
@@ -86,3 +88,19 @@ verdict-none s t w x e =
 -- the sample of an accepted reading is within the limits
 pub lab-in : (r : Reading) (s : Lab) → labOf s ≡ sampleOf r → readingRefusal r ≡ 0 → SampleIn (labOf s)
 lab-in r s e h = subst SampleIn (sym e) (sample-in r h)
+
+-- ---- what follows of an answer that is CIEDE2000's
+abbrev Answers : Difference → Reading → Reading → Weights → Type 0
+Answers r s t w = r ≡ answerOf (weightedRefusal s t w) (ciede2000Of (weightsOf w) (sampleOf s) (sampleOf t))
+
+-- it is the same with the samples exchanged, and zero for equal samples
+pub with-laws : {r : Difference} (s t : Reading) (w : Weights) → Answers r s t w
+    → Answers r s t w × ((r ≡ answerOf (weightedRefusal s t w) (ciede2000Of (weightsOf w) (sampleOf t) (sampleOf s))) × (weightedRefusal s t w ≡ 0 → sampleOf s ≡ sampleOf t → r ≡ Of (doubleOf 0)))
+unfolding answerOf
+with-laws s t w e = (
+  e,
+  (
+    e ∙ ap (λ (n : ℕ). answerOf (weightedRefusal s t w) n) (ciede2000-symmetric (weightsOf w) (sampleOf t) (sampleOf s)),
+    (λ k q. e ∙ (λ i. answerOf (k i) (ciede2000Of (weightsOf w) (sampleOf s) (sym q i))) ∙ ap (λ (n : ℕ). Of (doubleOf n)) (ciede2000-equal (weightsOf w) (sampleOf s))),
+  ),
+)

@@ -142,8 +142,11 @@ fn millionths(standard: Reading, sample: Reading, weights: Weights) -> u64
     difference::ciede2000(&sines, &gaussians, w, s, t)
 }
 
+// The same with the samples exchanged, and zero for samples that round to the same.
 pub fn ciede2000(standard: Reading, sample: Reading, weights: Weights) -> Difference
-    ensures { λ r. ⌜ r ≡ answerOf (weightedRefusal standard sample weights) (ciede2000Of (weightsOf weights) (sampleOf standard) (sampleOf sample)) ⌝ }
+    ensures is { λ r. ⌜ r ≡ answerOf (weightedRefusal standard sample weights) (ciede2000Of (weightsOf weights) (sampleOf standard) (sampleOf sample)) ⌝ }
+    ensures symmetric { λ r. ⌜ r ≡ answerOf (weightedRefusal standard sample weights) (ciede2000Of (weightsOf weights) (sampleOf sample) (sampleOf standard)) ⌝ }
+    ensures zero { λ r. ⌜ (weightedRefusal standard sample weights ≡ 0 → sampleOf standard ≡ sampleOf sample → r ≡ Difference.Of (doubleOf 0)) ⌝ }
 {
     let refusal = weighted_refusal(standard, sample, weights);
     if refusal != 0 {

@@ -1,7 +1,7 @@
 use mathlib.Core.Path.{_≡_, refl, sym, ap, _∙_, subst}
 use Rattle.measure.specs.Answers.{doubleOf}
 use Rattle.measure.specs.declared.Difference.the-variants.{Refused}
-use Rattle.measure.proofs.Refusing.{refused, given}
+use Rattle.measure.proofs.Refusing.{refused, given, with-laws}
 use borrow.Author.Needs.{needs}
 use Rattle.measure.proofs.ciede2000.Statement.{statement}
 use Rattle.measure.proofs.ciede2000.Tie as tie
@@ -19,7 +19,7 @@ weighted-refusal-requires c κs = search needs
 returns : tie.Need-returns
 returns c =
     let e = c .before .weighted-refusal .ensures in
-    ap Refused e ∙ refused _ _ (λ z. c .if1 .taken (e ∙ z))
+    with-laws _ _ _ (ap Refused e ∙ refused _ _ (λ z. c .if1 .taken (e ∙ z)))
 
 -- src/lib.rt:152:27
 millionths-requires : tie.Need-millionths-requires
@@ -31,7 +31,7 @@ double-requires c κs = search needs
 
 -- src/lib.rt:145:1
 returns-2 : tie.Need-returns-2
-returns-2 c = given _ _ (sym (c .before .before .before .weighted-refusal .ensures) ∙ c .before .before .if1 .left) (c .double .ensures ∙ ap doubleOf (c .before .millionths .ensures .is))
+returns-2 c = with-laws _ _ _ (given _ _ (sym (c .before .before .before .weighted-refusal .ensures) ∙ c .before .before .if1 .left) (c .double .ensures ∙ ap doubleOf (c .before .millionths .ensures .is)))
 
 pub ciede2000-spec : {M : Type 1} → statement M
 ciede2000-spec =
