@@ -32,11 +32,11 @@ natural-difference-requires-2 c κs = search needs
 
 -- src/lib.rt:220:9
 chroma-weight94-requires : tie.Need-chroma-weight94-requires
-chroma-weight94-requires c κs = chroma-in _ (c .before .before .before .pre .1 .0)
+chroma-weight94-requires c κs = omega (arith, chroma-in _ (c .before .before .before .pre .1 .0), chroma-in _ (c .before .before .before .pre .1 .1))
 
 -- src/lib.rt:221:9
 hue-weight94-requires : tie.Need-hue-weight94-requires
-hue-weight94-requires c κs = chroma-in _ (c .before .before .before .before .pre .1 .0)
+hue-weight94-requires c κs = omega (arith, chroma-in _ (c .before .before .before .before .pre .1 .0), chroma-in _ (c .before .before .before .before .pre .1 .1))
 
 -- src/lib.rt:222:5
 parts-requires : tie.Need-parts-requires

@@ -50,7 +50,7 @@ parts-requires c κs =
     let l : c .before .natural-difference .result .n ≤ 1000000 = omega (arith, c .before .natural-difference .ensures .most, l-in _ (s .1 .0 .1 .0), l-in _ (s .1 .0 .1 .1)) in
     let d : c .natural-difference2 .result .n ≤ 2307552816 = omega (arith, c .natural-difference2 .ensures .most, s .1 .1 .1 .0 .bounded .chroma, s .1 .1 .1 .1 .bounded .chroma) in
     let w = terms-in _ _ _ _ t (l-in _ (s .1 .0 .1 .0)) (l-in _ (s .1 .0 .1 .1)) (sum-le (s .1 .1 .1 .0) (s .1 .1 .1 .1)) in
-    (s .1 .0 .0, ((l, (d, m .hue-size)), (w .sl, (w .sc, w .sh))))
+    (s .1 .0 .0, ((l, (d, m .hue-size)), omega (arith, w .sl .0, w .sl .1, w .sc .0, w .sc .1, w .sh .0, w .sh .1)))
 
 -- src/lib.rt:295:9
 root-of-parts-requires : tie.Need-root-of-parts-requires
