@@ -1,1 +1,1 @@
-mod Refusing
+pub mod Refusing
