@@ -6,8 +6,12 @@
  *   3  a or b below -128 or above 128
  *   4  a weight is not a number, below 0.5 or above 10
  *   5  the tolerance is not a number, below 0 or above 100
- * The first that applies, in the order sample 1, sample 2, weights, tolerance. Sample 1 is the
- * standard. Results come through the pointers, which must not be null; on a refusal each is 0.
+ *   6  deck columns of unequal length, or more than 4,096 swatches
+ *   7  a swatch outside the limits, or lightness falls from one place to the next
+ *   8  more matches than the list has room for
+ * The first that applies, in the order sample 1, sample 2, weights, tolerance, deck, room. Sample 1 is
+ * the standard. Results come through the pointers, which must not be null; on a refusal each is 0, and
+ * a list keeps its contents.
  */
 #ifndef LAHSUFIQ_H
 #define LAHSUFIQ_H
@@ -40,6 +44,16 @@ uint32_t lq_figures(float l1, float a1, float b1, float l2, float a2, float b2, 
 /* CIEDE2000, and 1 where it is at most the tolerance, else 0: refusals 1 to 5. */
 uint32_t lq_verdict(float l1, float a1, float b1, float l2, float a2, float b2, float kl, float kc, float kh,
                     float tolerance, double *difference, uint8_t *within);
+
+/* The places, counted from 0, of the swatches of a deck whose CIEDE2000 difference from the reading
+ * (rl, ra, rb) is at most the tolerance, in rising order at the front of `places`; entries past them
+ * keep their contents. The deck is three columns in whole numbers of 1/10,000, sorted by lightness:
+ * L from 0 to 1,000,000, a and b from -1,280,000 to 1,280,000. Swatches are sample 1, the reading is
+ * sample 2. `*count` is the number of matches; with refusal 8 the number of entries needed; else 0.
+ * Refusals 1 to 8, the reading's first. A list or column of length 0 may not be null. */
+uint32_t lq_search(const int32_t *l, size_t l_len, const int32_t *a, size_t a_len, const int32_t *b, size_t b_len,
+                   float rl, float ra, float rb, float kl, float kc, float kh, float tolerance,
+                   uint16_t *places, size_t room, size_t *count);
 
 #ifdef __cplusplus
 }

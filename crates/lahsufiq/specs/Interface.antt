@@ -7,6 +7,8 @@ use lib.IntN.{ℤ, pos}
 use lib.Ieee.{Float}
 use Rattle.fixed_point.specs.declared.Reading.{Reading}
 use Rattle.fixed_point.specs.declared.Weights.{Weights}
+use Rattle.deck.specs.declared.Found.{Found}
+use Rattle.deck.specs.declared.Found.the-variants.{Count, Refused as FoundRefused, Short}
 use Rattle.measure.specs.Answers.{refusalOf, differenceOf}
 use Rattle.measure.specs.declared.Difference.{Difference}
 use Rattle.measure.specs.declared.FigureList.{FigureList}
@@ -25,6 +27,12 @@ pub record Hands (answer : Difference) (number : ℕ) (double : Float) : Type 0 
 -- a yes or no as 1 or 0
 abbrev pub oneOf : Bool → ℕ
 oneOf t = cond t 1 0
+
+-- the number of matches, or with refusal 8 the number needed
+abbrev pub handedCount : Found → ℕ
+handedCount (Count n) = n
+handedCount (FoundRefused k) = 0
+handedCount (Short n) = n
 
 -- paper 01's figures in its order
 unfoldable pub figureRow : FigureList → List ℤ

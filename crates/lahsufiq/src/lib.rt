@@ -1,12 +1,19 @@
 // The C interface: the public calls as functions for `rt staticlib lahsufiq`, declared in
 // include/lahsufiq.h. Each returns the refusal's number, 0 for an answer.
 ghost use mathlib.Core.Path.{_≡_};
+ghost use Prim.Native.Nat.{_≤_};
+ghost use lib.ListN.{length};
 ghost use Rattle.fixed_point.specs.Rounding.{fixedSize};
 ghost use Rattle.fixed_point.specs.Samples.{sampleOf, weightsOf};
 ghost use Rattle.difference.specs.Differences.{cie76Of, cie94Of, ciede2000Of, figuresOf, withinTolerance};
 ghost use Rattle.measure.specs.Answers.{answerOf, refusalOf, differenceOf, yesOf, figuresAnswer};
 ghost use Rattle.measure.specs.Calls.{pairRefusal, weightedRefusal, verdictRefusal};
-ghost use Rattle.lahsufiq.specs.Interface.{reading, weights, oneOf, figureRow, Hands, Signable};
+ghost use Rattle.deck.specs.Deck.{columnsAt, searchRefusal};
+ghost use Rattle.deck.specs.Answers.{numberOf, countOf};
+ghost use Rattle.deck.specs.Search.{searchTally, searchAnswer, searchContents};
+ghost use Rattle.deck.specs.DemandThree.{DemandThree};
+ghost use Rattle.lahsufiq.specs.Interface.{reading, weights, oneOf, figureRow, handedCount, Hands, Signable};
+use deck::Found;
 use fixed_point::Reading;
 use fixed_point::Weights;
 use measure::Difference;
@@ -241,4 +248,65 @@ pub extern "C" fn lq_figures(
     let list = answer.list;
     *figures = row(list);
     answer.refusal as u32
+}
+
+fn found_number(f: Found) -> u32
+    ensures { λ r. ⌜ r ≡ numberOf f ⌝ }
+{
+    match f {
+        Found::Count(_) => 0,
+        Found::Refused(k) => k as u32,
+        Found::Short(_) => 8,
+    }
+}
+
+// The number of matches, or with refusal 8 the number needed.
+fn found_count(f: Found) -> usize
+    ensures { λ r. ⌜ r ≡ handedCount f ⌝ }
+{
+    match f {
+        Found::Count(n) => n,
+        Found::Refused(_) => 0,
+        Found::Short(n) => n,
+    }
+}
+
+// The places of the swatches within the tolerance, to the front of the list that was lent.
+#[no_mangle]
+pub extern "C" fn lq_search(
+    l: &[i32],
+    a: &[i32],
+    b: &[i32],
+    rl: f32,
+    ra: f32,
+    rb: f32,
+    kl: f32,
+    kc: f32,
+    kh: f32,
+    tolerance: f32,
+    places: &mut [u16],
+    count: &mut usize,
+) -> u32
+    ensures number { λ r. ⌜ r ≡ numberOf (searchAnswer (reading rl ra rb) (weights kl kc kh) tolerance (now (l .entry)) (now (a .entry)) (now (b .entry)) (length (now (places .entry)))) ⌝ }
+    ensures count { λ r. ⌜ now (count .exit) ≡ handedCount (searchAnswer (reading rl ra rb) (weights kl kc kh) tolerance (now (l .entry)) (now (a .entry)) (now (b .entry)) (length (now (places .entry)))) ⌝ }
+    ensures contents { λ r. ⌜ now (places .exit) ≡ searchContents (reading rl ra rb) (weights kl kc kh) tolerance (now (l .entry)) (now (a .entry)) (now (b .entry)) (now (places .entry)) ⌝ }
+    ensures listed { λ r. ⌜ (searchRefusal (reading rl ra rb) (weights kl kc kh) tolerance (now (l .entry)) (now (a .entry)) (now (b .entry)) ≡ 0
+        → searchTally (reading rl ra rb) (weights kl kc kh) tolerance (now (l .entry)) (now (a .entry)) (now (b .entry)) ≤ length (now (places .entry))
+        → DemandThree (weightsOf (weights kl kc kh)) (sampleOf (reading rl ra rb)) (fixedSize tolerance) (columnsAt (now (l .entry)) (now (a .entry)) (now (b .entry)))
+        (length (now (l .entry))) (countOf (searchAnswer (reading rl ra rb) (weights kl kc kh) tolerance (now (l .entry)) (now (a .entry)) (now (b .entry)) (length (now (places .entry)))))
+        (now (places .entry)) (now (places .exit))) ⌝ }
+{
+    let r = Reading {
+        l: rl,
+        a: ra,
+        b: rb,
+    };
+    let w = Weights {
+        l: kl,
+        c: kc,
+        h: kh,
+    };
+    let found = deck::search(l, a, b, r, w, tolerance, places);
+    *count = found_count(found);
+    found_number(found)
 }

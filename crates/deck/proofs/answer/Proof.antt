@@ -1,0 +1,36 @@
+-- `deck::answer` meets its contract. Assumes nothing.
+use Rattle.deck.proofs.DeckLaws.{found-fits, found-short, contents-fits, contents-short}
+use lib.Seq.{length-take-le}
+use lib.ListN.{length}
+use native.Mathlib.Omega.{arith}
+use Prim.Native.Nat.{_≤_, _<_}
+use mathlib.Core.Path.{_∙_}
+use borrow.Author.Needs.{needs}
+use Rattle.deck.proofs.answer.Statement.{statement}
+use Rattle.deck.proofs.answer.Tie as tie
+use Rattle.deck.proofs.answer.Reads as reads
+use Rattle.deck.proofs.answer.Lts as lts
+use Rattle.places.proofs.copy_front.Reads as copy-front-reads
+
+copy-front-requires : tie.Need-copy-front-requires
+copy-front-requires c κs = search needs
+
+same-length : tie.Need-same-length
+same-length c = search needs
+
+returns : tie.Need-returns
+returns c =
+    let s = c .before .before .before .before .before .before in
+    let h : s .args .n ≤ length (s .args .found .now) = omega arith in
+    let room : s .args .n ≤ length (s .args .places .now) = omega arith in
+    (found-fits _ _ (length-take-le (s .args .n) (s .args .found .now) h) _ room, c .before .before .copy-front .ensures ∙ contents-fits _ _ (length-take-le (s .args .n) (s .args .found .now) h) _ room)
+
+returns-2 : tie.Need-returns-2
+returns-2 c =
+    let s = c .before .before in
+    let h : s .args .n ≤ length (s .args .found .now) = omega arith in
+    let room : length (s .args .places .now) < s .args .n = omega arith in
+    (found-short _ _ (length-take-le (s .args .n) (s .args .found .now) h) _ room, contents-short _ _ (length-take-le (s .args .n) (s .args .found .now) h) _ room)
+
+pub answer-spec : {M : Type 1} → statement M
+answer-spec = tie.close (tie.spec copy-front-requires same-length returns returns-2)

@@ -1,0 +1,52 @@
+-- `deck::matches` meets its contract. Assumes nothing.
+use Rattle.deck.proofs.LightnessWindow.{window-order, query-window}
+use Rattle.deck.proofs.DeckLaws.{columns-valid}
+use Rattle.difference.specs.Carried.{preparedSample}
+use borrow.Author.Needs.{needs}
+use Rattle.deck.proofs.matches.Statement.{statement}
+use Rattle.deck.proofs.matches.Tie as tie
+use Rattle.deck.proofs.matches.Reads as reads
+use Rattle.deck.proofs.matches.Lts as lts
+use Rattle.deck.proofs.gather.Reads as gather-reads
+use Rattle.deck.proofs.lightness_window.Reads as lightness-window-reads
+use Rattle.deck.proofs.reach.Reads as reach-reads
+use Rattle.gaussian.proofs.gaussian_table.Reads as gaussian-table-reads
+use Rattle.sine.proofs.sine_table.Reads as sine-table-reads
+
+sine-table-requires : tie.Need-sine-table-requires
+sine-table-requires c κs = search needs
+
+gaussian-table-requires : tie.Need-gaussian-table-requires
+gaussian-table-requires c κs = search needs
+
+reach-requires : tie.Need-reach-requires
+reach-requires c κs = search needs
+
+lightness-window-requires : tie.Need-lightness-window-requires
+unfolding preparedSample
+lightness-window-requires c κs =
+    let p = c .before .before .before .before .before .pre in
+    (columns-valid _ _ _ (p .1 .0) .rises, (p .0 .reading .within .l, c .reach .ensures .1))
+
+gather-requires : tie.Need-gather-requires
+gather-requires c κs =
+    let p = c .before .before .before .before .before .before .before .before .before .pre in
+    let w = c .before .before .before .lightness-window .ensures in
+    ((c .before .before .before .before .before .before .before .before .sine-table .ensures, c .before .before .before .before .before .before .before .gaussian-table .ensures), (p .0, (p .1 .0, ((window-order _ (p .0) _ _ _ (columns-valid _ _ _ (p .1 .0)) _ (c .before .before .before .before .reach .ensures .0) _ (w .0) (w .1), w .1 .size), p .1 .1))))
+
+returns : tie.Need-returns
+returns c =
+    let p = c .before .before .before .before .before .before .before .before .before .before .pre in
+    let w = c .before .before .before .before .lightness-window .ensures in
+    rw (query-window _ (p .0) _ _ _ (columns-valid _ _ _ (p .1 .0)) _ (c .before .before .before .before .before .reach .ensures .0) _ (w .0) (w .1)) (c .gather .ensures)
+
+pub matches-spec : {M : Type 1} → statement M
+matches-spec =
+    tie.close
+    (tie.spec
+    sine-table-requires
+    gaussian-table-requires
+    reach-requires
+    lightness-window-requires
+    gather-requires
+    returns)

@@ -1,0 +1,24 @@
+-- `deck::reach` meets its contract. Assumes nothing.
+use mathlib.Core.Path.{refl}
+use native.Mathlib.Omega.{arith}
+use Rattle.deck.proofs.LightnessWindow.{reach-most}
+use borrow.Author.Needs.{needs}
+use Rattle.deck.proofs.reach.Statement.{statement}
+use Rattle.deck.proofs.reach.Tie as tie
+use Rattle.deck.proofs.reach.Reads as reads
+use Rattle.deck.proofs.reach.Lts as lts
+
+mul-result : tie.Need-mul-result
+mul-result c = search needs
+
+add-result : tie.Need-add-result
+add-result c = search needs
+
+mul-result-2 : tie.Need-mul-result-2
+mul-result-2 c = omega (arith, reach-most (c .args .k) (c .args .tolerance) (omega arith) (omega arith))
+
+returns : tie.Need-returns
+returns c = (refl, omega (arith, reach-most (c .args .k) (c .args .tolerance) (omega arith) (omega arith)))
+
+pub reach-spec : {M : Type 1} → statement M
+reach-spec = tie.close (tie.spec mul-result add-result mul-result-2 returns)

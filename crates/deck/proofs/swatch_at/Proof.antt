@@ -1,0 +1,72 @@
+-- `deck::swatch_at` meets its contract. Assumes nothing.
+use Rattle.deck.specs.Deck.{columnsAt, swatchSample}
+use Rattle.fixed_point.specs.Samples.{labOf}
+use mathlib.Core.Path.{_≡_}
+use Rattle.deck.proofs.DeckLaws.{swatch-sample-in}
+use Rattle.deck.proofs.Steps.{element-is, lab-is}
+use borrow.Author.Needs.{needs}
+use Rattle.deck.proofs.swatch_at.Statement.{statement}
+use Rattle.deck.proofs.swatch_at.Tie as tie
+use Rattle.deck.proofs.swatch_at.Reads as reads
+use Rattle.deck.proofs.swatch_at.Lts as lts
+use Rattle.difference.proofs.prepare.Reads as prepare-reads
+use Rattle.signed.proofs.from_i32.Reads as from-i32-reads
+use Rattle.signed.proofs.size.Reads as size-reads
+
+mul-from-i32 : tie.Need-mul-from-i32
+mul-from-i32 c = search needs
+
+shared-slice-copy-out-from-i32 : tie.Need-shared-slice-copy-out-from-i32
+shared-slice-copy-out-from-i32 c = search needs
+
+from-i32-requires : tie.Need-from-i32-requires
+from-i32-requires c κs = search needs
+
+size-requires : tie.Need-size-requires
+size-requires c κs = search needs
+
+mul-from-i32-2 : tie.Need-mul-from-i32-2
+mul-from-i32-2 c = search needs
+
+shared-slice-copy-out-from-i32-2 : tie.Need-shared-slice-copy-out-from-i32-2
+shared-slice-copy-out-from-i32-2 c = search needs
+
+from-i32-requires-2 : tie.Need-from-i32-requires-2
+from-i32-requires-2 c κs = search needs
+
+mul-from-i32-3 : tie.Need-mul-from-i32-3
+mul-from-i32-3 c = search needs
+
+shared-slice-copy-out-from-i32-3 : tie.Need-shared-slice-copy-out-from-i32-3
+shared-slice-copy-out-from-i32-3 c = search needs
+
+from-i32-requires-3 : tie.Need-from-i32-requires-3
+from-i32-requires-3 c κs = search needs
+
+lab : (c : tie.After-from-i323) → labOf (record { l = c .before .before .before .before .size .result; a = c .before .before .from-i322 .result; b = c .from-i323 .result }) ≡ swatchSample (columnsAt (c .before .before .before .before .before .before .before .args .l .now) (c .before .before .before .before .before .before .before .args .a .now) (c .before .before .before .before .before .before .before .args .b .now) (c .before .before .before .before .before .before .before .args .k))
+unfolding columnsAt
+lab c =
+    lab-is _ _ _ _ _ (element-is _ (c .before .before .before .before .before .before .from-i32-arg .given) (c .before .before .before .before .before .from-i32 .ensures .is)) (c .before .before .before .before .size .ensures .is) (element-is _ (c .before .before .before .from-i32-arg2 .given) (c .before .before .from-i322 .ensures .is)) (element-is _ (c .before .from-i32-arg3 .given) (c .from-i323 .ensures .is))
+
+prepare-requires : tie.Need-prepare-requires
+prepare-requires c κs = rw (lab c) (swatch-sample-in _ (c .before .before .before .before .before .before .before .pre .1))
+
+returns : tie.Need-returns
+returns c = rw (lab (c .before)) at (c .prepare .ensures)
+
+pub swatch-at-spec : {M : Type 1} → statement M
+swatch-at-spec =
+    tie.close
+    (tie.spec
+    mul-from-i32
+    shared-slice-copy-out-from-i32
+    from-i32-requires
+    size-requires
+    mul-from-i32-2
+    shared-slice-copy-out-from-i32-2
+    from-i32-requires-2
+    mul-from-i32-3
+    shared-slice-copy-out-from-i32-3
+    from-i32-requires-3
+    prepare-requires
+    returns)
