@@ -1,5 +1,5 @@
 -- Paper 01's "Proved table": for each row what the definitions give, and what the paper says. A flag is 1 or 0. The weights are 1 unless said.
-use mathlib.Core.Bool.{Bool, cond}
+use mathlib.Core.Bool.{Bool, false, cond}
 use mathlib.Core.List.{List, [], _∷_, map}
 use Prim.Native.Nat.{ℕ}
 use lib.IntN.{ℤ, pos, negsuc, negℤ}
@@ -95,11 +95,11 @@ table =
       gives = hueAt (pos 10000) (pos 0) ∷ hueAt (pos 0) (pos 10000) ∷ hueAt (negsuc 9999) (pos 0) ∷ hueAt (pos 0) (negsuc 9999) ∷ [];
       says = pos 0 ∷ pos 90000000 ∷ pos 180000000 ∷ pos 270000000 ∷ [];
     } ∷
-    -- 0.0009: not far; H is then above 0
+    -- 0.0009: not far; X, and so H, is below 0
     record { gives = nearlyOpposite 9; says = pos 0 ∷ pos 0 ∷ pos 1 ∷ [] } ∷
     -- 0.0010: not far, exactly opposite, H minus
     record { gives = nearlyOpposite 10; says = pos 0 ∷ pos 1 ∷ pos 1 ∷ [] } ∷
-    -- 0.0011: far
+    -- 0.0011: far; X, and so H, is above 0
     record { gives = nearlyOpposite 11; says = pos 1 ∷ pos 0 ∷ pos 0 ∷ [] } ∷
     -- CIE76 of 001's pair 1
     record { gives = pos (cie76Of (sample 500000 (pos 26772) (negℤ (pos 797751))) (sample 500000 (pos 0) (negℤ (pos 827485)))) ∷ []; says = pos 4001063 ∷ [] } ∷

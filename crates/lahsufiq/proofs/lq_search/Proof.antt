@@ -29,8 +29,7 @@ same-length c = search needs
 -- src/lib.rt:275:1
 returns : tie.Need-returns
 returns c =
-    let found = c .before .before .before .before .search .ensures in
-    (
+    let found = c .before .before .before .before .search .ensures in (
       c .found-number .ensures ∙ ap numberOf (found .0),
       (
         c .before .found-count .ensures ∙ ap handedCount (found .0),

@@ -1,0 +1,17 @@
+/* Compiled, not run: the header's declarations must be these, or the compiler sees a conflict. */
+#include "lahsufiq.h"
+#include <stdbool.h>
+#include <stddef.h>
+#include <stdint.h>
+
+uint32_t lq_cie76(float, float, float, float, float, float, double *);
+uint32_t lq_cie94(float, float, float, float, float, float, float, float, float, bool, double *);
+uint32_t lq_ciede2000(float, float, float, float, float, float, float, float, float, double *);
+uint32_t lq_figures(float, float, float, float, float, float, float, float, float, int64_t[23]);
+uint32_t lq_verdict(float, float, float, float, float, float, float, float, float, float, double *, uint8_t *);
+uint32_t lq_search(const int32_t *, size_t, const int32_t *, size_t, const int32_t *, size_t, float, float, float, float,
+                   float, float, float, uint16_t *, size_t, size_t *);
+
+/* Each must be declared by the header itself. */
+void *declared[] = {(void *)lq_cie76,   (void *)lq_cie94,   (void *)lq_ciede2000,
+                    (void *)lq_figures, (void *)lq_verdict, (void *)lq_search};

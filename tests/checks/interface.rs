@@ -1,0 +1,107 @@
+//! The C interface, as include/lahsufiq.h declares it, for the check programs. What a call is to
+//! write holds something else before it, and its neighbours in memory are looked at after it.
+
+use reference::calls::Reading;
+use reference::deck::Columns;
+use reference::working::FIGURES;
+
+#[rustfmt::skip]
+mod c {
+    unsafe extern "C" {
+        pub fn lq_cie76(l1: f32, a1: f32, b1: f32, l2: f32, a2: f32, b2: f32, difference: *mut f64) -> u32;
+        pub fn lq_cie94(
+            l1: f32, a1: f32, b1: f32, l2: f32, a2: f32, b2: f32, kl: f32, kc: f32, kh: f32, textile: bool,
+            difference: *mut f64,
+        ) -> u32;
+        pub fn lq_ciede2000(
+            l1: f32, a1: f32, b1: f32, l2: f32, a2: f32, b2: f32, kl: f32, kc: f32, kh: f32, difference: *mut f64,
+        ) -> u32;
+        pub fn lq_figures(
+            l1: f32, a1: f32, b1: f32, l2: f32, a2: f32, b2: f32, kl: f32, kc: f32, kh: f32, figures: *mut i64,
+        ) -> u32;
+        pub fn lq_verdict(
+            l1: f32, a1: f32, b1: f32, l2: f32, a2: f32, b2: f32, kl: f32, kc: f32, kh: f32, tolerance: f32,
+            difference: *mut f64, within: *mut u8,
+        ) -> u32;
+        pub fn lq_search(
+            l: *const i32, l_len: usize, a: *const i32, a_len: usize, b: *const i32, b_len: usize, rl: f32, ra: f32,
+            rb: f32, kl: f32, kc: f32, kh: f32, tolerance: f32, places: *mut u16, room: usize, count: *mut usize,
+        ) -> u32;
+    }
+}
+
+/// What stands in a result before a call, and around a list.
+const BEFORE: f64 = -7.25;
+const AROUND: u16 = 0xa5c3;
+
+/// A refusal number and the bits of the double.
+pub type Answer = (u32, u64);
+
+pub fn cie76([l1, a1, b1]: Reading, [l2, a2, b2]: Reading) -> Answer {
+    let mut difference = BEFORE;
+    let refusal = unsafe { c::lq_cie76(l1, a1, b1, l2, a2, b2, &mut difference) };
+    (refusal, difference.to_bits())
+}
+
+pub fn cie94([l1, a1, b1]: Reading, [l2, a2, b2]: Reading, [kl, kc, kh]: [f32; 3], textile: bool) -> Answer {
+    let mut difference = BEFORE;
+    let refusal = unsafe { c::lq_cie94(l1, a1, b1, l2, a2, b2, kl, kc, kh, textile, &mut difference) };
+    (refusal, difference.to_bits())
+}
+
+pub fn ciede2000([l1, a1, b1]: Reading, [l2, a2, b2]: Reading, [kl, kc, kh]: [f32; 3]) -> Answer {
+    let mut difference = BEFORE;
+    let refusal = unsafe { c::lq_ciede2000(l1, a1, b1, l2, a2, b2, kl, kc, kh, &mut difference) };
+    (refusal, difference.to_bits())
+}
+
+pub fn figures([l1, a1, b1]: Reading, [l2, a2, b2]: Reading, [kl, kc, kh]: [f32; 3]) -> (u32, [i64; FIGURES]) {
+    let mut held = [-7; FIGURES + 2];
+    let refusal = unsafe { c::lq_figures(l1, a1, b1, l2, a2, b2, kl, kc, kh, held[1..].as_mut_ptr()) };
+    assert!(held[0] == -7 && held[FIGURES + 1] == -7, "lq_figures wrote beside its figures");
+    (refusal, held[1..=FIGURES].try_into().expect("as many figures"))
+}
+
+pub fn verdict([l1, a1, b1]: Reading, [l2, a2, b2]: Reading, [kl, kc, kh]: [f32; 3], tolerance: f32) -> (u32, u64, u8) {
+    let (mut difference, mut within) = (BEFORE, 0xee);
+    let refusal = unsafe { c::lq_verdict(l1, a1, b1, l2, a2, b2, kl, kc, kh, tolerance, &mut difference, &mut within) };
+    (refusal, difference.to_bits(), within)
+}
+
+/// The refusal number and the count; `list` is lent.
+pub fn search(
+    deck: Columns,
+    [rl, ra, rb]: Reading,
+    [kl, kc, kh]: [f32; 3],
+    tolerance: f32,
+    list: &mut [u16],
+) -> (u32, usize) {
+    let mut count = 0xdead;
+    let mut held = vec![AROUND; list.len() + 2];
+    let last = list.len() + 1;
+    held[1..last].copy_from_slice(list);
+    let [l, a, b] = deck;
+    let refusal = unsafe {
+        c::lq_search(
+            l.as_ptr(),
+            l.len(),
+            a.as_ptr(),
+            a.len(),
+            b.as_ptr(),
+            b.len(),
+            rl,
+            ra,
+            rb,
+            kl,
+            kc,
+            kh,
+            tolerance,
+            held[1..].as_mut_ptr(),
+            list.len(),
+            &mut count,
+        )
+    };
+    assert!(held[0] == AROUND && held[last] == AROUND, "lq_search wrote beside its list");
+    list.copy_from_slice(&held[1..last]);
+    (refusal, count)
+}
