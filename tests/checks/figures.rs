@@ -11,10 +11,12 @@ use reference::working::{self, FIGURE_NAMES, FIGURES};
 
 const PAIRS: usize = 1_200_000;
 
-/// The largest deviation from double precision, and where it is.
+/// The largest deviation from double precision and where it is; the largest with all weights 1.
+#[derive(Default)]
 struct Deviation {
     largest: f64,
     at: String,
+    largest_even: f64,
 }
 
 impl Deviation {
@@ -29,7 +31,10 @@ impl Deviation {
         );
         let off = (exact - found).abs();
         if off > self.largest {
-            *self = Deviation { largest: off, at: format!("{r1:?}, {r2:?}, weights {k:?}") };
+            (self.largest, self.at) = (off, format!("{r1:?}, {r2:?}, weights {k:?}"));
+        }
+        if k == [1.0; 3] {
+            self.largest_even = self.largest_even.max(off);
         }
     }
 }
@@ -87,7 +92,7 @@ fn table_one(t: &mut Tally, r: &mut Random, off: &mut Deviation) {
 fn main() {
     let mut t = Tally::new("figures");
     let mut r = Random::new(4);
-    let mut off = Deviation { largest: 0.0, at: String::new() };
+    let mut off = Deviation::default();
     table_one(&mut t, &mut r, &mut off);
     let each = PAIRS / KINDS.len();
     let mut pairs = 0;
@@ -103,6 +108,7 @@ fn main() {
         t.report(&format!("{count} pairs, {kind:?}"));
     }
     println!("figures: {pairs} pairs against double precision: largest deviation {:.7}, at {}", off.largest, off.at);
+    println!("figures: with all weights 1: largest deviation {:.7}", off.largest_even);
     t.same("deviation below 0.001", off.largest < 0.001, true);
     t.end();
 }

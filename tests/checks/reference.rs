@@ -66,6 +66,102 @@ fn proved_table(t: &mut Tally) {
     t.report("the proved table, the text example, the mean hue of pair 7");
 }
 
+/// Refusals 1 to 7 and the limits, from the paper's table.
+fn refusals(t: &mut Tally) {
+    let (nan, infinite, past_100, past_128) = (f32::NAN, f32::INFINITY, 100.0f32.next_up(), 128.0f32.next_up());
+    for (reading, wanted) in [
+        ([nan, 0.0, 0.0], Err(1)),
+        ([0.0, infinite, 0.0], Err(1)),
+        ([-1.0, 0.0, -infinite], Err(1)),
+        ([-1e-45, 0.0, 0.0], Err(2)),
+        ([past_100, 200.0, 0.0], Err(2)),
+        ([0.0, past_128, 0.0], Err(3)),
+        ([0.0, 0.0, -past_128], Err(3)),
+        ([100.0, -128.0, 128.0], Ok(lab(1_000_000, -1_280_000, 1_280_000))),
+        ([1e-45, -1e-45, 0.00005], Ok(lab(0, 0, 0))),
+        ([0.000050001, -0.000050001, 0.03125], Ok(lab(1, -1, 313))),
+    ] {
+        t.same(("sample", reading), calls::sample(reading), wanted);
+    }
+    for (k, wanted) in [(nan, None), (infinite, None), (0.5f32.next_down(), None), (10.0f32.next_up(), None)]
+        .into_iter()
+        .chain([(0.5, Some(5_000)), (10.0, Some(100_000)), (1.0, Some(10_000))])
+    {
+        for i in 0..3 {
+            let mut all = [1.0; 3];
+            all[i] = k;
+            let found = calls::weights(all).map(|w| [w.l, w.c, w.h][i]);
+            t.same(("weight", i, k), found, wanted.ok_or(4));
+        }
+    }
+    for (x, wanted) in [(nan, Err(5)), (-1e-45, Err(5)), (past_100, Err(5)), (0.0, Ok(0)), (100.0, Ok(1_000_000))] {
+        t.same(("tolerance", x), calls::tolerance(x), wanted);
+    }
+    let first_bad = calls::verdict([50.0, 200.0, 0.0], [nan, 0.0, 0.0], [nan; 3], nan);
+    t.same("sample 1 before sample 2", first_bad, Err(3));
+    t.same("sample 2 before weights", calls::verdict([50.0; 3], [200.0, 0.0, 0.0], [nan; 3], nan), Err(2));
+    t.same("weights before tolerance", calls::verdict([50.0; 3], [50.0; 3], [nan; 3], nan), Err(4));
+    t.same("verdict at 0", calls::verdict([50.0; 3], [50.0; 3], [1.0; 3], 0.0), Ok((0, true)));
+    let column = |size: usize, value: i32| vec![value; size];
+    for (l, a, b, tolerance, wanted) in [
+        (column(4096, 0), column(4096, 0), column(4096, 0), 5.0, (0, 4096)),
+        (column(4097, 0), column(4097, 0), column(4097, 0), 5.0, (6, 0)),
+        (column(1, -1), column(2, 0), column(1, 0), 5.0, (6, 0)),
+        (column(1, -1), column(1, 0), column(1, 0), 5.0, (7, 0)),
+        (column(1, 1_000_001), column(1, 0), column(1, 0), 5.0, (7, 0)),
+        (column(1, 0), column(1, -1_280_001), column(1, 0), 5.0, (7, 0)),
+        (column(1, 0), column(1, 0), column(1, 1_280_001), 5.0, (7, 0)),
+        (vec![1, 0], column(2, 0), column(2, 0), 5.0, (7, 0)),
+        (vec![1, 0], column(1, 0), column(2, 0), nan, (5, 0)),
+        (vec![], vec![], vec![], 5.0, (0, 0)),
+    ] {
+        let found = deck::search([&l, &a, &b], [0.0; 3], [1.0; 3], tolerance, &mut [0; 4096]);
+        t.same(("deck", l.len(), l.first(), tolerance), found, wanted);
+    }
+    t.report("refusals 1 to 7, limits, and their order");
+}
+
+/// Lines of the text program, each with what it is refused with.
+fn lines(t: &mut Tally) {
+    let accepted = ["0 0 0 0 0 0", "-0 -0.0 -0.0000 -000 0.0 0", "100 128 -128 100.0000 -128.0000 128.0"];
+    let nine = [
+        "",
+        " ",
+        "0 0 0 0 0",
+        "0 0 0 0 0 0 0",
+        " 0 0 0 0 0 0",
+        "0 0 0 0 0 0 ",
+        "0  0 0 0 0 0",
+        "0\t0 0 0 0 0",
+        "+1 0 0 0 0 0",
+        ".5 0 0 0 0 0",
+        "5. 0 0 0 0 0",
+        "1.00000 0 0 0 0 0",
+        "1000 0 0 0 0 0",
+        "--1 0 0 0 0 0",
+        "- 0 0 0 0 0",
+        "1e1 0 0 0 0 0",
+        "0 0 0 0 0 0\r",
+        "101 0 0 0 0 0\r",
+        "1.2.3 0 0 0 0 0",
+        "0 0 0 0 0 0\0",
+    ];
+    let two = ["100.0001 129 0 0 0 0", "-0.0001 0 0 0 0 0", "999.9999 0 0 0 0 0", "0 0 0 101 200 0"];
+    let three = ["0 128.0001 0 0 0 0", "0 0 -128.0001 101 0 0", "0 0 0 0 129 0", "0 0 0 0 0 -999"];
+    let header = "de76 de94 de00 dl dc dh\n";
+    for (lines, wanted) in [(&accepted[..], None), (&nine, Some(9)), (&two, Some(2)), (&three, Some(3))] {
+        for line in lines {
+            let output = String::from_utf8(text::text_of(format!("{line}\n").as_bytes())).expect("text");
+            let refused = wanted.map(|n| format!("{header}refused {n}\n"));
+            t.same(("line", line), output.contains("refused").then_some(output), refused);
+        }
+    }
+    t.same("empty input", text::text_of(b""), header.as_bytes().to_vec());
+    t.same("no last newline", text::text_of(b"0 0 0 0 0 0"), text::text_of(b"0 0 0 0 0 0\n"));
+    t.same("two blank lines", text::text_of(b"\n\n"), format!("{header}refused 9\nrefused 9\n").into_bytes());
+    t.report("lines of the text program");
+}
+
 /// Ten-thousandths of a number of millionths.
 fn four_decimals(millionths: i128) -> i128 {
     (millionths + 50) / 100
@@ -81,51 +177,103 @@ fn table_one(t: &mut Tally) {
             let off = (four_decimals(ciede2000(s1, s2, EVEN)) - published).abs();
             t.same(("pair, at most one unit off", pair), off <= 1, true);
             exact += (off == 0) as usize;
-            t.same(("pair, in double precision", pair), deviation(s1, s2, [1.0; 3]) < 0.001, true);
+            t.same(("pair, in double precision", pair), deviations(s1, s2, EVEN)[0] < 0.001, true);
         }
     }
     println!("reference: Table I: {exact} of 68 differences equal the published one in all four decimals");
     t.report("Table I, both ways round");
 }
 
-/// How far the reference is from double precision.
-fn deviation(s1: Lab, s2: Lab, k: [f32; 3]) -> f64 {
-    let doubles = |s: Lab| [s.l, s.a, s.b].map(|x| x as f64 / 10_000.0);
-    let grid = calls::weights(k).expect("weights within limits");
-    let k = [grid.l, grid.c, grid.h].map(|x| x as f64 / 10_000.0);
-    (double::ciede2000(doubles(s1), doubles(s2), k) - calls::double(ciede2000(s1, s2, grid))).abs()
+/// The figures that Table I prints, to four decimals.
+fn table_one_figures(t: &mut Tally) {
+    const NAMES: [&str; 13] = ["a1'", "C1'", "h1'", "a2'", "C2'", "h2'", "mean hue", "G", "T", "SL", "SC", "SH", "RT"];
+    // h2' of these pairs, and with it the mean, is not what the source's own equations give
+    const MISPRINTED: [usize; 2] = [21, 23];
+    for (row, published) in cases::table_one().iter().zip(cases::table_one_figures()) {
+        let f = figures(row.s1, row.s2, EVEN);
+        let in_units = |x: i128, unit: i128| x.signum() * ((x.abs() + unit / 2) / unit);
+        let (lengths, hues) = (|i: usize| in_units(f[i], 1000), |i: usize| in_units(f[i], 100));
+        let ratios = |x: i128| in_units(x, 100_000);
+        let g = ratios((1_000_000_000 - f[10]) / 2);
+        let found = [
+            lengths(1),
+            lengths(3),
+            hues(4),
+            lengths(6),
+            lengths(8),
+            hues(9),
+            hues(13),
+            g,
+            ratios(f[14]),
+            ratios(f[15]),
+            ratios(f[16]),
+            ratios(f[17]),
+            ratios(-f[18]),
+        ];
+        for i in 0..NAMES.len() {
+            let most = if MISPRINTED.contains(&row.pair) && (i == 5 || i == 6) { 12 } else { 1 };
+            let off = (found[i] - published[i]).abs();
+            t.same((NAMES[i], "of pair", row.pair, found[i], published[i]), off <= most, true);
+        }
+    }
+    t.report("the figures that Table I prints");
+}
+
+/// How far CIEDE2000, and CIE94 of each kind, are from double precision.
+fn deviations(s1: Lab, s2: Lab, k: Weights) -> [f64; 3] {
+    let doubles = |x: [i128; 3]| x.map(|x| x as f64 / 10_000.0);
+    let (d1, d2, dk) = (doubles([s1.l, s1.a, s1.b]), doubles([s2.l, s2.a, s2.b]), doubles([k.l, k.c, k.h]));
+    let off = |exact: f64, found: i128| (exact - calls::double(found)).abs();
+    [
+        off(double::ciede2000(d1, d2, dk), ciede2000(s1, s2, k)),
+        off(double::cie94(d1, d2, dk, false), cie94(s1, s2, k, false)),
+        off(double::cie94(d1, d2, dk, true), cie94(s1, s2, k, true)),
+    ]
 }
 
 /// Symmetry, zero, and the deviation from double precision, on random pairs of every kind.
 fn random_pairs(t: &mut Tally) {
     let mut r = Random::new(1);
-    let (mut largest, mut at) = (0.0, None);
+    let mut largest = [(0.0, None); 3];
     let mut count = 0;
     for kind in KINDS.into_iter().cycle().take(1_200_000) {
         let (r1, r2) = cases::pair(kind, &mut r);
-        let k = cases::weights(&mut r);
         let (s1, s2) = (calls::sample(r1).expect("within limits"), calls::sample(r2).expect("within limits"));
-        let grid = calls::weights(k).expect("within limits");
-        let there = figures(s1, s2, grid);
+        let k = calls::weights(cases::weights(&mut r)).expect("within limits");
         if count % 4 == 0 {
-            let back = figures(s2, s1, grid);
+            let (there, back) = (figures(s1, s2, k), figures(s2, s1, k));
             t.same(("symmetry", s1, s2, k), there[22], back[22]);
-            t.same(
-                ("signs turned round", s1, s2, k),
-                [there[12], there[19], there[20], there[21]],
-                [12, 19, 20, 21].map(|i| -back[i]),
-            );
-            t.same(("zero for equal samples", s1), ciede2000(s1, s1, grid), 0);
+            let signed = |f: &[i128; FIGURES]| [f[12], f[19], f[20], f[21]];
+            t.same(("signs turned round", s1, s2, k), signed(&there), signed(&back).map(|x| -x));
+            t.same(("zero for equal samples", s1), ciede2000(s1, s1, k), 0);
         }
-        let off = deviation(s1, s2, k);
-        if off > largest {
-            (largest, at) = (off, Some((kind, s1, s2, k)));
+        for (largest, off) in largest.iter_mut().zip(deviations(s1, s2, k)) {
+            if off > largest.0 {
+                *largest = (off, Some((kind, s1, s2, k)));
+            }
         }
         count += 1;
     }
     t.report("symmetry and zero, 12 kinds of pairs");
-    println!("reference: {count} pairs against double precision: largest deviation {largest:.7}, at {at:?}");
-    t.same("deviation below 0.001", largest < 0.001, true);
+    for (name, (off, at)) in ["CIEDE2000", "CIE94", "CIE94 for textiles"].into_iter().zip(largest) {
+        println!("reference: {name} of {count} pairs against double precision: largest deviation {off:.7}, at {at:?}");
+        t.same((name, "deviation below 0.001"), off < 0.001, true);
+    }
+}
+
+/// Sines of any angle, and the bell, against double precision.
+fn sines(t: &mut Tally) {
+    let mut r = Random::new(8);
+    for _ in 0..100_000 {
+        let angle = i128::from(r.from(-400_000_000, 1_500_000_000));
+        let exact = (angle as f64 / 1e6).to_radians().sin() * 1e9;
+        t.same(("sine", angle), (sine(angle) as f64 - exact).abs() < 3.0, true);
+        t.same(("cosine", angle), cosine(angle), sine(angle + 90_000_000));
+        let distance = i128::from(r.from(0, 130_000_000));
+        let exact = (-(distance as f64 / 25e6).powi(2)).exp() * 1e9;
+        t.same(("bell", distance), (bell(distance) as f64 - exact).abs() < 5_000.0, true);
+    }
+    t.report("sines and the bell against double precision");
 }
 
 /// The halving against a plain scan of all 900 tenths, and the root against the library's.
@@ -167,7 +315,11 @@ fn main() {
     t.same("sine of 30 degrees", tables::SINE[300], 500_000_000);
     t.same("bell of 25 degrees", tables::BELL[250], 367_879_441);
     proved_table(&mut t);
+    refusals(&mut t);
+    lines(&mut t);
     table_one(&mut t);
+    table_one_figures(&mut t);
+    sines(&mut t);
     halving(&mut t);
     floats(&mut t);
     random_pairs(&mut t);

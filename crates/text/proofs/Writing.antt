@@ -1,5 +1,6 @@
 -- Digits and texts written byte after byte into a buffer.
 use mathlib.Core.Path.{_≡_, refl, sym, ap, _∙_}
+use mathlib.Core.Bool.{Bool, true, false}
 use mathlib.Core.List.{List, [], _∷_, _++_, append-assoc}
 use Prim.Native.Nat.{ℕ, zero, suc, _+_, _-_, _*_, _/_, _%_, _^_, _≤_, _<_}
 use native.Mathlib.Nat.{add-zero, pow-suc}
@@ -10,6 +11,9 @@ use lib.ListN.{length, getD, take, set, length-append}
 use lib.Seq.{sets, take-suc}
 use lib.IntN.{ℤ, natAbs}
 use borrow.Author.Tests.{lt-ltb, le-ltb}
+use Rattle.signed.specs.Value.{withSign, int}
+use Rattle.signed.specs.declared.Int.{Int}
+use Rattle.signed.proofs.SignedLaws.{int-true, int-false, lt-neg-pos}
 use Rattle.text.specs.Figures.{lastDigits, digitsIn, digitsOf, minusOf, sizeText, figureText, figuresText}
 use Rattle.text.specs.Carried.{Written}
 
@@ -101,6 +105,24 @@ digits-first n most h s w = rw (digits-one n s) (written-most w h)
 pub digits-next : {out mid last : List ℕ} {at e r : ℕ} (n most : ℕ) → 0 < most → 10 ≤ n → Written out at (digitsOf (n / 10)) (most - 1) mid e → Written mid e ((48 + n % 10) ∷ []) 1 last r
     → Written out at (digitsOf n) most last r
 digits-next n most h s w v = rw (digits-more n s) (written-most (written-append w v) (omega arith))
+
+zero-no-minus : (t : Bool) (n : ℕ) → n ≡ 0 → minusOf (withSign t n) ≡ []
+unfolding minusOf
+zero-no-minus true n e = rw e
+zero-no-minus false n e = rw e
+
+-- the minus, from the sign and the size
+pub minus-zero : (v : Int) → v .n ≡ 0 → [] ≡ minusOf (int v)
+unfolding int
+minus-zero v e = sym (zero-no-minus (v .neg) (v .n) e)
+
+pub minus-negative : (v : Int) → (v .n ≡ 0 → ⊥) → v .neg ≡ true → 45 ∷ [] ≡ minusOf (int v)
+unfolding minusOf
+minus-negative v h e = sym (rw (int-true v e, lt-neg-pos (v .n) 0 (omega arith)))
+
+pub minus-positive : (v : Int) → v .neg ≡ false → [] ≡ minusOf (int v)
+unfolding minusOf
+minus-positive v e = sym (rw (int-false v e, le-ltb (v .n) 0 (omega arith)))
 
 pub figure-written : (z : ℤ) (n end : ℕ) {o₀ o₁ o₂ o₃ o₄ o₅ : List ℕ} {e₀ e₁ e₂ e₃ e₄ e₅ : ℕ} → natAbs z ≡ n
     → Written o₀ e₀ (minusOf z) 1 o₁ e₁ → Written o₁ e₁ (digitsOf (n / 1000000)) 14 o₂ e₂ → Written o₂ e₂ (46 ∷ []) 1 o₃ e₃

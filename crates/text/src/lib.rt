@@ -257,7 +257,11 @@ fn put_minus(out: &mut [u8], at: usize, v: Int) -> usize
     requires { ⌜ at < length (now out) ⌝ }
     ensures { λ r. ⌜ Written (now (out .entry)) at (minusOf (int v)) 1 (now (out .exit)) r ⌝ }
 {
-    if signed::is_negative(v) {
+    // zero has no minus
+    if v.n == 0 {
+        return at;
+    }
+    if v.neg {
         return put_byte(out, at, b'-');
     }
     at
@@ -459,29 +463,29 @@ fn step_with(
 {
     let mut line = state.line;
     let mut len = state.len;
-    let mut i = 0;
-    let mut at = 0;
-    while i < chunk.len() {
-        if out.len() - at < 138 {
+    let mut read = 0;
+    let mut written = 0;
+    while read < chunk.len() {
+        if out.len() - written < 138 {
             return Progress {
                 state: State { line, len },
-                read: i,
-                written: at,
+                read,
+                written,
             };
         }
-        let b = chunk[i];
+        let b = chunk[read];
         if b == b'\n' {
-            at = put_answer(sines, gaussians, &line, len, out, at);
+            written = put_answer(sines, gaussians, &line, len, out, written);
             len = 0;
         } else {
             len = push(&mut line, len, b);
         }
-        i += 1;
+        read += 1;
     }
     Progress {
         state: State { line, len },
-        read: i,
-        written: at,
+        read,
+        written,
     }
 }
 

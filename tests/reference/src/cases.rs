@@ -161,16 +161,24 @@ pub struct Row {
     pub published: i128,
 }
 
+/// The words of a line as ten-thousandths; every decimal of the table has four places.
+fn ten_thousandths(line: &str) -> Vec<i128> {
+    let number = |word: &str| word.replace('.', "").parse().expect("a decimal of four places");
+    line.split(' ').map(number).collect()
+}
+
 pub fn table_one() -> Vec<Row> {
-    // every decimal of the table has four places
-    let grid = |word: &str| word.replace('.', "").parse::<i128>().expect("a decimal of four places");
     let row = |line: &str| {
-        let words: Vec<&str> = line.split(' ').collect();
-        let [l1, a1, b1, l2, a2, b2, published] = words[1..].iter().map(|w| grid(w)).collect::<Vec<_>>()[..] else {
+        let [pair, l1, a1, b1, l2, a2, b2, published] = ten_thousandths(line)[..] else {
             panic!("not a row of Table I: {line}")
         };
-        let pair = words[0].parse().expect("the number of a pair");
-        Row { pair, s1: Lab { l: l1, a: a1, b: b1 }, s2: Lab { l: l2, a: a2, b: b2 }, published }
+        Row { pair: pair as usize, s1: Lab { l: l1, a: a1, b: b1 }, s2: Lab { l: l2, a: a2, b: b2 }, published }
     };
     include_str!("../../data/table_one.txt").lines().map(row).collect()
+}
+
+/// The other columns of Table I, in ten-thousandths: a1', C1', h1', a2', C2', h2', mean hue, G, T, SL,
+/// SC, SH, RT.
+pub fn table_one_figures() -> Vec<Vec<i128>> {
+    include_str!("../../data/table_one_figures.txt").lines().map(|line| ten_thousandths(line)[1..].to_vec()).collect()
 }

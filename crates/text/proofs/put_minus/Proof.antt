@@ -1,27 +1,30 @@
-use mathlib.Core.Path.{sym, _∙_}
+use Rattle.text.proofs.Writing.{written-is, written-none, minus-zero, minus-negative, minus-positive}
 use borrow.Author.Needs.{needs}
-use Rattle.text.specs.Figures.{minusOf}
-use Rattle.text.proofs.Writing.{written-none}
 use Rattle.text.proofs.put_minus.Statement.{statement}
 use Rattle.text.proofs.put_minus.Tie as tie
+use Rattle.text.proofs.put_minus.Reads as reads
+use Rattle.text.proofs.put_minus.Lts as lts
+use Rattle.text.proofs.put_byte.Reads as put-byte-reads
 
-is-negative-requires : tie.Need-is-negative-requires
-is-negative-requires c κs = search needs
+-- src/lib.rt:262:9
+returns : tie.Need-returns
+returns c = written-is (minus-zero _ (c .if1 .taken)) (written-none _ _ 1)
 
+-- src/lib.rt:265:9
 put-byte-requires : tie.Need-put-byte-requires
 put-byte-requires c κs = search needs
 
+-- src/lib.rt:265:9
 same-length : tie.Need-same-length
 same-length c = search needs
 
-returns : tie.Need-returns
-unfolding minusOf
-returns c = rw (sym (c .before .before .before .before .before .is-negative .ensures) ∙ c .before .before .before .before .if1 .taken) (c .before .before .put-byte .ensures)
-
+-- src/lib.rt:265:9
 returns-2 : tie.Need-returns-2
-unfolding minusOf
-returns-2 c = rw (sym (c .before .is-negative .ensures) ∙ c .if1 .left) (written-none _ _ 1)
+returns-2 c = written-is (minus-negative _ (c .before .before .before .before .before .if1 .left) (c .before .before .before .before .if2 .taken)) (c .before .before .put-byte .ensures)
+
+-- src/lib.rt:256:1
+returns-3 : tie.Need-returns-3
+returns-3 c = written-is (minus-positive _ (c .if2 .left)) (written-none _ _ 1)
 
 pub put-minus-spec : {M : Type 1} → statement M
-put-minus-spec =
-    tie.close (tie.spec is-negative-requires put-byte-requires same-length returns returns-2)
+put-minus-spec = tie.close (tie.spec returns put-byte-requires same-length returns-2 returns-3)

@@ -10,10 +10,10 @@ use Rattle.text.proofs.step_with.Statement.{statement}
 use Rattle.text.proofs.step_with.Tie as tie
 
 abbrev Inv-loop : tie.InvT-loop
-Inv-loop sines gaussians chunk out₀ line₀ len₀ i₀ at₀ out line len i at = Going (heldIn line₀ len₀) chunk out₀ out line len i at
+Inv-loop sines gaussians chunk out₀ line₀ len₀ read₀ written₀ out line len read written = Going (heldIn line₀ len₀) chunk out₀ out line len read written
 
 abbrev μ-loop : tie.MeasureT-loop
-μ-loop sines gaussians chunk out₀ line₀ len₀ i₀ at₀ out line len i at = length chunk - i
+μ-loop sines gaussians chunk out₀ line₀ len₀ read₀ written₀ out line len read written = length chunk - read
 
 loop-holds : tie.Need-loop-holds Inv-loop μ-loop
 loop-holds c = record { read = omega arith; array = search needs; same = refl; held = starts-held _; text = starts-text _ _ }
@@ -41,8 +41,8 @@ put-answer-requires c κs = (c .before .before .before .before .before .before .
 push-requires : tie.Need-push-requires Inv-loop μ-loop
 push-requires c κs = c .before .before .before .before .before .loop .inv .array
 
-add-i : tie.Need-add-i Inv-loop μ-loop
-add-i c = omega arith
+add-read : tie.Need-add-read Inv-loop μ-loop
+add-read c = omega arith
 
 loop-less : tie.Need-loop-less Inv-loop μ-loop
 loop-less c = omega arith
@@ -51,7 +51,7 @@ loop-again : tie.Need-loop-again Inv-loop μ-loop
 loop-again c =
     let g = c .before .before .before .before .loop .inv in
     let more = c .before .before .before .loop-test .taken in
-    let room : c .before .before .before .before .loop .at + 138 ≤ length (c .before .before .before .before .loop .out) = omega (arith, g .text .next, g .text .size) in
+    let room : c .before .before .before .before .loop .written + 138 ≤ length (c .before .before .before .before .loop .out) = omega (arith, g .text .next, g .text .size) in
     ⊎-elim
     (λ w. going-is (w .6) (w .7) (w .8) (w .9) (going-answer g more refl (w .0 .taken) room (w .3 .ensures)))
     (λ w. going-is (w .3) (w .4) (w .5) (w .6) (going-push g more refl (w .0 .left) (w .2 .ensures)))
@@ -79,7 +79,7 @@ step-with-spec =
     slice-aggregate-put-answer
     put-answer-requires
     push-requires
-    add-i
+    add-read
     loop-less
     loop-again
     same-length-2
