@@ -4,7 +4,7 @@
 rust() { # NAME SOURCE WORDS..
     local name=$1 source=$2
     shift 2
-    rustc -O -C overflow-checks=on -D warnings --edition 2024 --crate-name "$name" -L "$out" --out-dir "$out" "$@" "$source"
+    rustc -O -C overflow-checks=on --edition 2024 --crate-name "$name" -L "$out" --out-dir "$out" "$@" "$source"
 }
 
 build_reference() {

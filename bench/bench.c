@@ -1,0 +1,331 @@
+/* The benchmark; bench/run builds and starts it. It writes its tables to standard output.
+ * Times are processor time, so that other work on the machine changes them little; each is the median
+ * of several rounds, in which the methods take turns on the same data. */
+#define _GNU_SOURCE
+#include "lahsufiq.h"
+
+#include <fcntl.h>
+#include <math.h>
+#include <stdio.h>
+#include <stdlib.h>
+#include <string.h>
+#include <sys/resource.h>
+#include <sys/wait.h>
+#include <time.h>
+#include <unistd.h>
+
+#ifdef LCMS
+#include <lcms2.h>
+#endif
+
+enum { ROUNDS = 9, PAIRS = 20000, READINGS = 40, MOST_SWATCHES = 4096, LINES = 200000 };
+
+static const double PI = 3.14159265358979323846;
+
+typedef struct {
+    float l, a, b;
+} Sample;
+
+/* --- repeatable random numbers (SplitMix64) --- */
+
+static uint64_t state = 1;
+
+static uint64_t next_random(void) {
+    uint64_t z = state += 0x9e3779b97f4a7c15;
+    z = (z ^ z >> 30) * 0xbf58476d1ce4e5b9;
+    z = (z ^ z >> 27) * 0x94d049bb133111eb;
+    return z ^ z >> 31;
+}
+
+/* A whole number of 1/10,000 from low to high. */
+static int32_t random_grid(int32_t low, int32_t high) {
+    return low + (int32_t)(next_random() % (uint64_t)(high - low + 1));
+}
+
+static int32_t within(int32_t x, int32_t low, int32_t high) { return x < low ? low : x > high ? high : x; }
+
+/* --- time --- */
+
+static double processor_seconds(void) {
+    struct timespec now;
+    clock_gettime(CLOCK_PROCESS_CPUTIME_ID, &now);
+    return (double)now.tv_sec + 1e-9 * (double)now.tv_nsec;
+}
+
+static int rising(const void *x, const void *y) {
+    double a = *(const double *)x, b = *(const double *)y;
+    return (a > b) - (a < b);
+}
+
+static double median(double times[ROUNDS]) {
+    qsort(times, ROUNDS, sizeof times[0], rising);
+    return times[ROUNDS / 2];
+}
+
+/* --- the three methods --- */
+
+static double proved(const Sample *s1, const Sample *s2) {
+    double difference;
+    lq_ciede2000(s1->l, s1->a, s1->b, s2->l, s2->a, s2->b, 1, 1, 1, &difference);
+    return difference;
+}
+
+static double degrees(double b, double a) {
+    if (a == 0 && b == 0) return 0;
+    double h = atan2(b, a) * 180 / PI;
+    return h < 0 ? h + 360 : h;
+}
+
+static double cosine(double angle) { return cos(angle * PI / 180); }
+
+static double seventh(double c) { return sqrt(pow(c, 7) / (pow(c, 7) + 6103515625.0)); }
+
+/* Source 001's equations in double precision, as one would write them down. */
+static double plain(const Sample *s1, const Sample *s2) {
+    double l1 = s1->l, a1 = s1->a, b1 = s1->b, l2 = s2->l, a2 = s2->a, b2 = s2->b;
+    double mean_chroma = (sqrt(a1 * a1 + b1 * b1) + sqrt(a2 * a2 + b2 * b2)) / 2;
+    double g = 0.5 * (1 - seventh(mean_chroma));
+    a1 *= 1 + g;
+    a2 *= 1 + g;
+    double c1 = sqrt(a1 * a1 + b1 * b1), c2 = sqrt(a2 * a2 + b2 * b2);
+    double h1 = degrees(b1, a1), h2 = degrees(b2, a2);
+    double dh = h2 - h1, mean_h = h1 + h2;
+    if (c1 * c2 == 0) {
+        dh = 0;
+    } else if (fabs(dh) <= 180) {
+        mean_h /= 2;
+    } else {
+        dh += dh > 0 ? -360 : 360;
+        mean_h = (mean_h + (mean_h < 360 ? 360 : -360)) / 2;
+    }
+    double dl = l2 - l1, dc = c2 - c1, dhh = 2 * sqrt(c1 * c2) * sin(dh / 2 * PI / 180);
+    double mean_c = (c1 + c2) / 2, from_50 = (l1 + l2) / 2 - 50;
+    double t = 1 - 0.17 * cosine(mean_h - 30) + 0.24 * cosine(2 * mean_h) + 0.32 * cosine(3 * mean_h + 6) -
+               0.20 * cosine(4 * mean_h - 63);
+    double turn = (mean_h - 275) / 25;
+    double rt = -sin(60 * exp(-turn * turn) * PI / 180) * 2 * seventh(mean_c);
+    double l = dl / (1 + 0.015 * from_50 * from_50 / sqrt(20 + from_50 * from_50));
+    double c = dc / (1 + 0.045 * mean_c), h = dhh / (1 + 0.015 * mean_c * t);
+    return sqrt(l * l + c * c + h * h + rt * c * h);
+}
+
+#ifdef LCMS
+static double lcms(const Sample *s1, const Sample *s2) {
+    cmsCIELab lab1 = {s1->l, s1->a, s1->b}, lab2 = {s2->l, s2->a, s2->b};
+    return cmsCIE2000DeltaE(&lab1, &lab2, 1, 1, 1);
+}
+#endif
+
+/* --- a pair --- */
+
+typedef double (*Method)(const Sample *, const Sample *);
+
+#ifdef LCMS
+enum { METHODS = 3 };
+static const Method METHOD[METHODS] = {proved, plain, lcms};
+static const char *NAME[METHODS] = {"Lahsufiq", "plain double", "LittleCMS"};
+#else
+enum { METHODS = 2 };
+static const Method METHOD[METHODS] = {proved, plain};
+static const char *NAME[METHODS] = {"Lahsufiq", "plain double"};
+#endif
+
+static volatile double sink;
+
+static Sample random_sample(void) {
+    return (Sample){(float)(random_grid(0, 1000000) / 1e4), (float)(random_grid(-1280000, 1280000) / 1e4),
+                    (float)(random_grid(-1280000, 1280000) / 1e4)};
+}
+
+static float moved(float x, int32_t by, int32_t low, int32_t high) {
+    int32_t grid = (int32_t)lrint(x * 1e4) + random_grid(-by, by);
+    return (float)(within(grid, low, high) / 1e4);
+}
+
+static Sample near(Sample s, int32_t by) {
+    return (Sample){moved(s.l, by, 0, 1000000), moved(s.a, by, -1280000, 1280000), moved(s.b, by, -1280000, 1280000)};
+}
+
+/* Prints the head of a table: the columns given, a column a method, and the ratios to the others. */
+static void head(const char *columns) {
+    printf("%s", columns);
+    for (int m = 0; m < METHODS; m++) printf(" %s |", NAME[m]);
+    for (int m = 1; m < METHODS; m++) printf(" to %s |", NAME[m]);
+    printf("\n|");
+    for (const char *c = columns + 1; *c; c++)
+        if (*c == '|') printf("---|");
+    for (int m = 0; m < 2 * METHODS - 1; m++) printf("---|");
+    printf("\n");
+}
+
+static void row(const double times[METHODS], double unit, int places) {
+    for (int m = 0; m < METHODS; m++) printf(" %.*f |", places, times[m] * unit);
+    for (int m = 1; m < METHODS; m++) printf(" %.2f |", times[0] / times[m]);
+    printf("\n");
+}
+
+static void pairs_of(const char *what, const Sample *first, const Sample *second) {
+    double times[METHODS][ROUNDS], medians[METHODS];
+    for (int round = 0; round < ROUNDS; round++)
+        for (int m = 0; m < METHODS; m++) {
+            double began = processor_seconds(), sum = 0;
+            for (int i = 0; i < PAIRS; i++) sum += METHOD[m](&first[i], &second[i]);
+            times[m][round] = (processor_seconds() - began) / PAIRS;
+            sink = sum;
+        }
+    for (int m = 0; m < METHODS; m++) medians[m] = median(times[m]);
+    printf("| %s |", what);
+    row(medians, 1e9, 0);
+}
+
+static void bench_pairs(void) {
+    static Sample first[PAIRS], far_second[PAIRS], near_second[PAIRS];
+    for (int i = 0; i < PAIRS; i++) {
+        first[i] = random_sample();
+        far_second[i] = random_sample();
+        near_second[i] = near(first[i], 30000);
+    }
+    printf("One CIEDE2000 difference, nanoseconds (ratio: Lahsufiq's time to the other's)\n\n");
+    head("| Pairs |");
+    pairs_of("anywhere", first, far_second);
+    pairs_of("near each other", first, near_second);
+    printf("\n");
+}
+
+/* --- a search --- */
+
+typedef struct {
+    size_t size;
+    int32_t l[MOST_SWATCHES], a[MOST_SWATCHES], b[MOST_SWATCHES];
+    Sample swatch[MOST_SWATCHES];
+} Deck;
+
+static int by_lightness(const void *x, const void *y) {
+    const int32_t *a = x, *b = y;
+    return (a[0] > b[0]) - (a[0] < b[0]);
+}
+
+/* Swatches spread over L from 0 to 100, a and b from -100 to 100, in rising lightness. */
+static void fill(Deck *deck, size_t size) {
+    static int32_t rows[MOST_SWATCHES][3];
+    for (size_t i = 0; i < size; i++) {
+        rows[i][0] = random_grid(0, 1000000);
+        rows[i][1] = random_grid(-1000000, 1000000);
+        rows[i][2] = random_grid(-1000000, 1000000);
+    }
+    qsort(rows, size, sizeof rows[0], by_lightness);
+    deck->size = size;
+    for (size_t i = 0; i < size; i++) {
+        deck->l[i] = rows[i][0];
+        deck->a[i] = rows[i][1];
+        deck->b[i] = rows[i][2];
+        deck->swatch[i] = (Sample){(float)(rows[i][0] / 1e4), (float)(rows[i][1] / 1e4), (float)(rows[i][2] / 1e4)};
+    }
+}
+
+static size_t search(const Deck *deck, const Sample *r, float tolerance, uint16_t *places) {
+    size_t count;
+    lq_search(deck->l, deck->size, deck->a, deck->size, deck->b, deck->size, r->l, r->a, r->b, 1, 1, 1, tolerance,
+              places, MOST_SWATCHES, &count);
+    return count;
+}
+
+static size_t scan(const Deck *deck, const Sample *r, float tolerance, uint16_t *places, Method method) {
+    size_t count = 0;
+    for (size_t i = 0; i < deck->size; i++)
+        if (method(&deck->swatch[i], r) <= tolerance) places[count++] = (uint16_t)i;
+    return count;
+}
+
+static void bench_searches(void) {
+    static const size_t SIZE[] = {16, 256, 4096};
+    static const float TOLERANCE[] = {0.5f, 2, 5};
+    static Deck deck;
+    static uint16_t places[MOST_SWATCHES];
+    Sample readings[READINGS];
+    double grown[3][3];
+    printf("One search, microseconds, beside a scan of the whole deck (ratio: Lahsufiq's time to the scan's)\n\n");
+    head("| Swatches | Tolerance | Matches |");
+    for (int s = 0; s < 3; s++) {
+        fill(&deck, SIZE[s]);
+        for (int i = 0; i < READINGS; i++) readings[i] = near(deck.swatch[next_random() % deck.size], 20000);
+        for (int t = 0; t < 3; t++) {
+            double times[METHODS][ROUNDS], medians[METHODS];
+            size_t matches[METHODS] = {0};
+            /* small decks are searched more often, so that a round is long enough to be timed */
+            int repeats = (int)(MOST_SWATCHES / deck.size);
+            for (int round = 0; round < ROUNDS; round++)
+                for (int m = 0; m < METHODS; m++) {
+                    double began = processor_seconds();
+                    size_t count = 0;
+                    for (int i = 0; i < READINGS * repeats; i++) {
+                        const Sample *r = &readings[i % READINGS];
+                        count += m == 0 ? search(&deck, r, TOLERANCE[t], places)
+                                        : scan(&deck, r, TOLERANCE[t], places, METHOD[m]);
+                    }
+                    times[m][round] = (processor_seconds() - began) / (READINGS * repeats);
+                    matches[m] = count;
+                }
+            for (int m = 0; m < METHODS; m++) medians[m] = median(times[m]);
+            grown[s][t] = medians[0];
+            printf("| %zu | %.1f | %.2f |", deck.size, TOLERANCE[t], (double)matches[0] / (READINGS * repeats));
+            row(medians, 1e6, 2);
+            for (int m = 1; m < METHODS; m++)
+                if (matches[m] != matches[0])
+                    fprintf(stderr, "bench: %s finds %zu matches, not %zu\n", NAME[m], matches[m], matches[0]);
+        }
+    }
+    printf("\nHow a search grows with the deck (both steps are 16 times as many swatches)\n\n");
+    printf("| Tolerance | 16 to 256 swatches | 256 to 4096 |\n|---|---|---|\n");
+    for (int t = 0; t < 3; t++)
+        printf("| %.1f | %.1f times | %.1f times |\n", TOLERANCE[t], grown[1][t] / grown[0][t], grown[2][t] / grown[1][t]);
+    printf("\n");
+}
+
+/* --- the text program --- */
+
+static void bench_program(const char *program) {
+    char file[] = "/tmp/lahsufiq-bench-XXXXXX";
+    int written = mkstemp(file);
+    FILE *lines = written < 0 ? NULL : fdopen(written, "w");
+    if (!lines) {
+        perror(file);
+        exit(1);
+    }
+    for (int i = 0; i < LINES; i++) {
+        Sample s1 = random_sample(), s2 = near(s1, 200000);
+        fprintf(lines, "%.4f %.4f %.4f %.4f %.4f %.4f\n", s1.l, s1.a, s1.b, s2.l, s2.a, s2.b);
+    }
+    fclose(lines);
+    double times[ROUNDS];
+    for (int round = 0; round < ROUNDS; round++) {
+        pid_t child = fork();
+        if (child == 0) {
+            int in = open(file, O_RDONLY), out = open("/dev/null", O_WRONLY);
+            dup2(in, 0);
+            dup2(out, 1);
+            execl(program, program, (char *)NULL);
+            perror(program);
+            _exit(127);
+        }
+        int status;
+        struct rusage used;
+        if (wait4(child, &status, 0, &used) != child || status != 0) {
+            fprintf(stderr, "bench: %s failed\n", program);
+            exit(1);
+        }
+        times[round] = (double)used.ru_utime.tv_sec + 1e-6 * (double)used.ru_utime.tv_usec +
+                       (double)used.ru_stime.tv_sec + 1e-6 * (double)used.ru_stime.tv_usec;
+    }
+    unlink(file);
+    double seconds = median(times);
+    printf("The program pairs\n\n| Lines | Seconds | Lines a second | Nanoseconds a line |\n|---|---|---|---|\n");
+    printf("| %d | %.3f | %.0f | %.0f |\n", LINES, seconds, LINES / seconds, 1e9 * seconds / LINES);
+}
+
+int main(int count, char **arguments) {
+    bench_pairs();
+    bench_searches();
+    if (count > 1) bench_program(arguments[1]);
+    return 0;
+}
