@@ -1,8 +1,8 @@
 -- What the results of the functions come to, for their proofs. Assumes nothing.
-use mathlib.Core.Path.{_≡_, refl, sym, ap, ap₂, subst, _∙_}
+use mathlib.Core.Path.{_≡_, sym, ap, ap₂, subst, _∙_}
 use mathlib.Core.Bool.{Bool, true, false, not, _&&_, _||_, cond}
-use mathlib.Core.List.{List, [], _∷_}
-use Prim.Native.Nat.{ℕ, zero, suc, _^_, _≤_, _<_}
+use mathlib.Core.List.{List}
+use Prim.Native.Nat.{ℕ, _^_, _<_}
 use borrow.Author.Needs.{sfits-of}
 use borrow.Author.Tests.{eq-eqb, ne-eqb}
 use lib.Dec.{leb, eqb}
@@ -16,18 +16,18 @@ use mir.Facts.{toZ-ofZ}
 use Rattle.signed.specs.Value.{int}
 use Rattle.signed.specs.declared.Int.{Int}
 use Rattle.places.specs.Places.{at, every, within, rising, Split}
-use Rattle.fixed_point.specs.Samples.{Sample, labOf, sampleOf, weightsOf, SampleIn}
+use Rattle.fixed_point.specs.Samples.{Sample, labOf, sampleOf, weightsOf}
 use Rattle.fixed_point.specs.Rounding.{fixedSize}
 use Rattle.fixed_point.specs.Refusals.{readingRefusal, weightsRefusal, toleranceRefusal, firstOf, firstRefusal}
 use Rattle.fixed_point.specs.declared.Reading.{Reading}
 use Rattle.fixed_point.specs.declared.Weights.{Weights}
 use Rattle.fixed_point.specs.declared.FixedWeights.{FixedWeights}
 use Rattle.fixed_point.specs.declared.Lab.{Lab}
-use Rattle.fixed_point.proofs.FixedLaws.{sample-in, weights-in, tolerance-le, first-last, first-cons}
-use Rattle.difference.specs.Carried.{preparedSample, Prepares}
+use Rattle.fixed_point.proofs.FixedLaws.{weights-in, tolerance-le, first-last}
+use Rattle.difference.specs.Carried.{Prepares}
 use Rattle.difference.specs.declared.Prepared.{Prepared}
 use Rattle.deck.specs.Deck.{Swatch, columnsAt, swatchSample, swatchIn, sizesIn, swatchesIn, columnsRefusal, searchRefusal, matchList}
-use Rattle.deck.specs.Carried.{Accepted, Asks, queryMatches}
+use Rattle.deck.specs.Carried.{Asks, queryMatches}
 use Rattle.deck.specs.declared.Query.{Query}
 use Rattle.deck.proofs.DeckLaws.{Sized, every-and}
 

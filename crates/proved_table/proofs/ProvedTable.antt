@@ -25,5 +25,5 @@ use Rattle.deck.specs.declared.Found.the-variants.{Count, Short}
 use Rattle.proved_table.specs.Cases.{Case, table}
 
 pub proved-table : map (λ (r : Case). r .gives) table ≡ map (λ (r : Case). r .says) table
-unfolding table ofBits le cie76Of readingRefusal weightsRefusal toleranceRefusal firstRefusal swatchIn sizesIn swatchesIn columnsRefusal searchRefusal every within rising foundOf nextRoot rootIn rootOf unit pi alternating series sineEntry interpolated sineQuarter sineHalf sineTurn sineOf cosineOf terms expSeries gaussianEntry gaussianBetween gaussianOf sumOfSquares chromaOf powerOf hypotenuseOf ratioOf primedA primedB primedChroma grey quadrantOf turnedX turnedY largest reaches tenthOf restOf angleOf hueIn hueOf crossOf laterIn secondLater firstLater farOf oppositeOf noHueOf hueNegative dotOf hueSize hueDifferenceOf meanHueOf termOf hueTermZ hueTerm lightnessOffset lightnessWeightAt lightnessWeight chromaWeight hueWeight hueDistance rotationSine rotation weighted partOf partsOf squared sumOf combined sampleChroma pairRatio primedOf pointHue pairFar pairHue pairMeanHue termsOf lightnessDifference chromaDifference parts00Of terms00Of figuresFrom figuresOf ciede2000Of withinTolerance keep hits matchesOf halfOf nearestOf fixedSize fixedOf sampleOf weightsOf columnsAt swatchSample differenceAt matchAt matchList columnsMatches
+unfolding table ofBits le cie76Of readingRefusal weightsRefusal toleranceRefusal firstRefusal swatchIn sizesIn swatchesIn columnsRefusal searchRefusal every within rising foundOf contentsOf nextRoot rootIn rootOf unit pi alternating series sineEntry interpolated sineQuarter sineHalf sineTurn sineOf cosineOf terms expSeries gaussianEntry gaussianBetween gaussianOf sumOfSquares chromaOf powerOf hypotenuseOf ratioOf primedA primedB primedChroma grey quadrantOf turnedX turnedY largest reaches tenthOf restOf angleOf hueIn hueOf crossOf laterIn secondLater firstLater farOf oppositeOf noHueOf hueNegative dotOf hueSize hueDifferenceOf meanHueOf termOf hueTermZ hueTerm lightnessOffset lightnessWeightAt lightnessWeight chromaWeight hueWeight hueDistance rotationSine rotation weighted partOf partsOf squared sumOf combined sampleChroma pairRatio primedOf pointHue pairFar pairHue pairMeanHue termsOf lightnessDifference chromaDifference parts00Of terms00Of figuresFrom figuresOf ciede2000Of withinTolerance keep hits matchesOf halfOf nearestOf fixedSize fixedOf sampleOf weightsOf columnsAt swatchSample differenceAt matchAt matchList columnsMatches
 proved-table = refl

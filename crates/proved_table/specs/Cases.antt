@@ -16,7 +16,7 @@ use Rattle.hue_difference.specs.HueDifference.{oppositeOf}
 use Rattle.difference.specs.Pair.{pairRatio, primedOf, pointHue, pairFar, pairHue}
 use Rattle.difference.specs.Differences.{cie76Of, figuresOf, ciede2000Of}
 use Rattle.deck.specs.Answers.{numberOf, countOf, neededOf}
-use Rattle.deck.specs.Search.{columnsMatches, searchAnswer}
+use Rattle.deck.specs.Search.{columnsMatches, searchAnswer, searchContents}
 
 -- ---- how a row is put
 
@@ -76,6 +76,10 @@ answer room =
     let r = searchAnswer reading weights (whole 5) lightness zeros zeros room in
     pos (numberOf r) ∷ pos (countOf r) ∷ pos (neededOf r) ∷ []
 
+-- what a list holds after the search
+abbrev contents : List ℕ → List ℤ
+contents old = map pos (searchContents reading weights (whole 5) lightness zeros zeros old)
+
 -- ---- the table
 
 -- what the definitions give, and what the paper says
@@ -112,4 +116,7 @@ table =
     record { gives = map pos (columnsMatches reading weights (whole 5) lightness zeros zeros); says = pos 1 ∷ pos 2 ∷ pos 3 ∷ [] } ∷
     record { gives = answer 3; says = pos 0 ∷ pos 3 ∷ pos 0 ∷ [] } ∷
     record { gives = answer 2; says = pos 8 ∷ pos 0 ∷ pos 3 ∷ [] } ∷
+    -- what a list of four entries holds afterwards, and one of two
+    record { gives = contents (9 ∷ 9 ∷ 9 ∷ 7 ∷ []); says = pos 1 ∷ pos 2 ∷ pos 3 ∷ pos 7 ∷ [] } ∷
+    record { gives = contents (9 ∷ 7 ∷ []); says = pos 9 ∷ pos 7 ∷ [] } ∷
     []

@@ -1,16 +1,13 @@
--- `deck::answer` meets its contract. Assumes nothing.
-use Rattle.deck.proofs.DeckLaws.{found-fits, found-short, contents-fits, contents-short}
+-- `deck::answer` meets its contract, with room and without. Assumes nothing.
+use mathlib.Core.Path.{_∙_}
+use Prim.Native.Nat.{_≤_, _<_}
+use native.Mathlib.Omega.{arith}
+use borrow.Author.Needs.{needs}
 use lib.Seq.{length-take-le}
 use lib.ListN.{length}
-use native.Mathlib.Omega.{arith}
-use Prim.Native.Nat.{_≤_, _<_}
-use mathlib.Core.Path.{_∙_}
-use borrow.Author.Needs.{needs}
+use Rattle.deck.proofs.DeckLaws.{found-fits, found-short, contents-fits, contents-short}
 use Rattle.deck.proofs.answer.Statement.{statement}
 use Rattle.deck.proofs.answer.Tie as tie
-use Rattle.deck.proofs.answer.Reads as reads
-use Rattle.deck.proofs.answer.Lts as lts
-use Rattle.places.proofs.copy_front.Reads as copy-front-reads
 
 copy-front-requires : tie.Need-copy-front-requires
 copy-front-requires c κs = search needs

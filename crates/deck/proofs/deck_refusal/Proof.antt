@@ -1,14 +1,8 @@
--- `deck::deck_refusal` meets its contract. Assumes nothing.
-use mathlib.Core.Path.{sym, _∙_}
-use Rattle.deck.proofs.Steps.{refusal-none, refusal-order, refusal-swatch, refusal-size}
+-- `deck::deck_refusal` meets its contract: a refusal for each return. Assumes nothing.
 use borrow.Author.Needs.{needs}
+use Rattle.deck.proofs.Steps.{refusal-none, refusal-order, refusal-swatch, refusal-size}
 use Rattle.deck.proofs.deck_refusal.Statement.{statement}
 use Rattle.deck.proofs.deck_refusal.Tie as tie
-use Rattle.deck.proofs.deck_refusal.Reads as reads
-use Rattle.deck.proofs.deck_refusal.Lts as lts
-use Rattle.deck.proofs.sizes_in.Reads as sizes-in-reads
-use Rattle.deck.proofs.swatches_in.Reads as swatches-in-reads
-use Rattle.places.proofs.rises.Reads as rises-reads
 
 sizes-in-requires : tie.Need-sizes-in-requires
 sizes-in-requires c κs = search needs

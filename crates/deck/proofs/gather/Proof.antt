@@ -1,6 +1,5 @@
--- `deck::gather` meets its contract. Assumes nothing.
+-- `deck::gather` meets its contract: the scratch list begins with the matches from the start of the window up to i. Assumes nothing.
 use mathlib.Core.Logic.{⊎-elim}
-use Rattle.deck.proofs.DeckLaws.{columns-valid}
 use mathlib.Core.Path.{_≡_, sym, ap, _∙_}
 use Prim.Native.Nat.{_≤_, _-_}
 use native.Mathlib.Omega.{arith}
@@ -8,11 +7,9 @@ use lib.ListN.{length, length-set}
 use Rattle.places.proofs.Gathering.{Gathered, gathered-none, gathered-hit, gathered-miss}
 use Rattle.deck.specs.Deck.{columnsAt}
 use Rattle.deck.specs.Carried.{queryMatch}
+use Rattle.deck.proofs.DeckLaws.{columns-valid}
 use Rattle.deck.proofs.gather.Statement.{statement}
 use Rattle.deck.proofs.gather.Tie as tie
-use Rattle.deck.proofs.gather.Reads as reads
-use Rattle.deck.proofs.gather.Lts as lts
-use Rattle.deck.proofs.matches_at.Reads as matches-at-reads
 
 abbrev Inv-loop : tie.InvT-loop
 Inv-loop sines gaussians q l a b found₀ n₀ i₀ end found n i = (length found ≡ 4096) × (i ≤ end) × Gathered (queryMatch q (columnsAt l a b)) i₀ i n found
@@ -26,20 +23,23 @@ loop-holds c = (c .pre .1 .1 .1 .1, c .pre .1 .1 .1 .0 .0, gathered-none _ _ _)
 matches-at-requires : tie.Need-matches-at-requires Inv-loop μ-loop
 matches-at-requires c κs = let p = c .before .before .pre in (p .0, (p .1 .0, (p .1 .1 .0, omega arith)))
 
+few : (c : tie.In-loop Inv-loop μ-loop) → length (c .before .before .args .l .now) ≤ 4096
+few c = columns-valid _ _ _ (c .before .before .pre .1 .1 .0) .size
+
 cast-found : tie.Need-cast-found Inv-loop μ-loop
-cast-found c = omega (arith, columns-valid _ _ _ (c .before .before .before .before .pre .1 .1 .0) .size)
+cast-found c = omega (arith, few (c .before .before))
 
 mul-found : tie.Need-mul-found Inv-loop μ-loop
-mul-found c = omega (arith, columns-valid _ _ _ (c .before .before .before .before .pre .1 .1 .0) .size)
+mul-found c = omega (arith, few (c .before .before))
 
 element-write-found : tie.Need-element-write-found Inv-loop μ-loop
-element-write-found c = omega (arith, columns-valid _ _ _ (c .before .before .before .before .pre .1 .1 .0) .size)
+element-write-found c = omega (arith, few (c .before .before))
 
 add-n : tie.Need-add-n Inv-loop μ-loop
-add-n c = omega (arith, columns-valid _ _ _ (c .before .before .before .before .pre .1 .1 .0) .size)
+add-n c = omega (arith, few (c .before .before))
 
 add-i : tie.Need-add-i Inv-loop μ-loop
-add-i c = omega (arith, columns-valid _ _ _ (c .before .before .before .before .pre .1 .1 .0) .size)
+add-i c = omega (arith, few (c .before .before))
 
 loop-less : tie.Need-loop-less Inv-loop μ-loop
 loop-less c = omega arith
@@ -47,7 +47,7 @@ loop-less c = omega arith
 loop-again : tie.Need-loop-again Inv-loop μ-loop
 loop-again c =
     let g = c .before .before .before .loop .inv in
-    let v = columns-valid _ _ _ (c .before .before .before .before .pre .1 .1 .0) in
+    let size = few (c .before .before) in
     ⊎-elim
     (λ w. (ap length (w .1) ∙ simp length-set (g .0), omega arith, rw (w .1, w .2) (gathered-hit _ _ _ _ _ (g .2) (sym (c .before .matches-at .ensures) ∙ w .0 .taken) (omega arith))))
     (λ w. (ap length (w .1) ∙ g .0, omega arith, rw (w .1, w .2) (gathered-miss _ _ _ _ _ (g .2) (sym (c .before .matches-at .ensures) ∙ w .0 .left))))

@@ -1,15 +1,9 @@
--- `deck::lightness_window` meets its contract. Assumes nothing.
-use Rattle.deck.proofs.Steps.{split-at}
+-- `deck::lightness_window` meets its contract: the bounds are read back as they were passed. Assumes nothing.
 use mathlib.Core.Path.{_∙_}
 use borrow.Author.Needs.{needs}
+use Rattle.deck.proofs.Steps.{split-at}
 use Rattle.deck.proofs.lightness_window.Statement.{statement}
 use Rattle.deck.proofs.lightness_window.Tie as tie
-use Rattle.deck.proofs.lightness_window.Reads as reads
-use Rattle.deck.proofs.lightness_window.Lts as lts
-use Rattle.places.proofs.first_at_least.Reads as first-at-least-reads
-use Rattle.signed.proofs.natural.Reads as natural-reads
-use Rattle.signed.proofs.natural_difference.Reads as natural-difference-reads
-use Rattle.signed.proofs.to_i32.Reads as to-i32-reads
 
 add-beyond : tie.Need-add-beyond
 add-beyond c = search needs

@@ -1,17 +1,10 @@
--- `deck::matches` meets its contract. Assumes nothing.
+-- `deck::matches` meets its contract: the matches of the window are all the matches. Assumes nothing.
+use borrow.Author.Needs.{needs}
+use Rattle.difference.specs.Carried.{preparedSample}
 use Rattle.deck.proofs.LightnessWindow.{window-order, query-window}
 use Rattle.deck.proofs.DeckLaws.{columns-valid}
-use Rattle.difference.specs.Carried.{preparedSample}
-use borrow.Author.Needs.{needs}
 use Rattle.deck.proofs.matches.Statement.{statement}
 use Rattle.deck.proofs.matches.Tie as tie
-use Rattle.deck.proofs.matches.Reads as reads
-use Rattle.deck.proofs.matches.Lts as lts
-use Rattle.deck.proofs.gather.Reads as gather-reads
-use Rattle.deck.proofs.lightness_window.Reads as lightness-window-reads
-use Rattle.deck.proofs.reach.Reads as reach-reads
-use Rattle.gaussian.proofs.gaussian_table.Reads as gaussian-table-reads
-use Rattle.sine.proofs.sine_table.Reads as sine-table-reads
 
 sine-table-requires : tie.Need-sine-table-requires
 sine-table-requires c κs = search needs

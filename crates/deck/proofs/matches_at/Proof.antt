@@ -1,16 +1,11 @@
--- `deck::matches_at` meets its contract. Assumes nothing.
-use Rattle.deck.proofs.DeckLaws.{columns-valid}
+-- `deck::matches_at` meets its contract: the swatches of a deck that is not refused are within the limits. Assumes nothing.
 use native.Mathlib.Omega.{arith}
+use borrow.Author.Needs.{needs}
 use Rattle.deck.specs.Deck.{matchAt, differenceAt}
 use Rattle.deck.specs.Carried.{queryMatch}
-use borrow.Author.Needs.{needs}
+use Rattle.deck.proofs.DeckLaws.{columns-valid}
 use Rattle.deck.proofs.matches_at.Statement.{statement}
 use Rattle.deck.proofs.matches_at.Tie as tie
-use Rattle.deck.proofs.matches_at.Reads as reads
-use Rattle.deck.proofs.matches_at.Lts as lts
-use Rattle.deck.proofs.swatch_at.Reads as swatch-at-reads
-use Rattle.difference.proofs.ciede2000.Reads as ciede2000-reads
-use Rattle.difference.proofs.within_tolerance.Reads as within-tolerance-reads
 
 swatch-at-requires : tie.Need-swatch-at-requires
 swatch-at-requires c κs =

@@ -1,15 +1,9 @@
--- `deck::query_of` meets its contract. Assumes nothing.
+-- `deck::query_of` meets its contract: what is accepted is within the limits in whole numbers. Assumes nothing.
+use borrow.Author.Needs.{needs}
 use Rattle.fixed_point.proofs.FixedLaws.{sample-in}
 use Rattle.deck.proofs.Steps.{asks}
-use borrow.Author.Needs.{needs}
 use Rattle.deck.proofs.query_of.Statement.{statement}
 use Rattle.deck.proofs.query_of.Tie as tie
-use Rattle.deck.proofs.query_of.Reads as reads
-use Rattle.deck.proofs.query_of.Lts as lts
-use Rattle.difference.proofs.prepare.Reads as prepare-reads
-use Rattle.fixed_point.proofs.fixed_reading.Reads as fixed-reading-reads
-use Rattle.fixed_point.proofs.fixed_tolerance.Reads as fixed-tolerance-reads
-use Rattle.fixed_point.proofs.fixed_weights.Reads as fixed-weights-reads
 
 fixed-weights-requires : tie.Need-fixed-weights-requires
 fixed-weights-requires c κs = search needs

@@ -1,12 +1,10 @@
--- `deck::reach` meets its contract. Assumes nothing.
+-- `deck::reach` meets its contract: the product is at most 700,000,700,000. Assumes nothing.
 use mathlib.Core.Path.{refl}
 use native.Mathlib.Omega.{arith}
-use Rattle.deck.proofs.LightnessWindow.{reach-most}
 use borrow.Author.Needs.{needs}
+use Rattle.deck.proofs.LightnessWindow.{reach-most}
 use Rattle.deck.proofs.reach.Statement.{statement}
 use Rattle.deck.proofs.reach.Tie as tie
-use Rattle.deck.proofs.reach.Reads as reads
-use Rattle.deck.proofs.reach.Lts as lts
 
 mul-result : tie.Need-mul-result
 mul-result c = search needs

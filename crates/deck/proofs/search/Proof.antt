@@ -1,20 +1,14 @@
--- `deck::search` meets its contract. Assumes nothing.
+-- `deck::search` meets its contract: the answer and the contents of the list, from which the other clauses follow. Assumes nothing.
+use mathlib.Core.Path.{refl, sym, ap₂, _∙_}
+use borrow.Author.Needs.{needs}
+use lib.ListN.{length}
+use Rattle.deck.specs.Answers.{foundOf, contentsOf}
+use Rattle.deck.specs.Search.{columnsMatches}
 use Rattle.deck.proofs.Demand.{search-clauses}
 use Rattle.deck.proofs.Steps.{query-matches}
 use Rattle.deck.proofs.DeckLaws.{search-accepts, refused-answer, refused-contents}
-use Rattle.deck.specs.Answers.{foundOf, contentsOf}
-use Rattle.deck.specs.Search.{columnsMatches}
-use lib.ListN.{length}
-use mathlib.Core.Path.{refl, sym, ap, ap₂, _∙_}
-use borrow.Author.Needs.{needs}
 use Rattle.deck.proofs.search.Statement.{statement}
 use Rattle.deck.proofs.search.Tie as tie
-use Rattle.deck.proofs.search.Reads as reads
-use Rattle.deck.proofs.search.Lts as lts
-use Rattle.deck.proofs.answer.Reads as answer-reads
-use Rattle.deck.proofs.matches.Reads as matches-reads
-use Rattle.deck.proofs.query_of.Reads as query-of-reads
-use Rattle.deck.proofs.search_refusal.Reads as search-refusal-reads
 
 search-refusal-requires : tie.Need-search-refusal-requires
 search-refusal-requires c κs = search needs

@@ -1,15 +1,8 @@
--- `deck::search_refusal` meets its contract. Assumes nothing.
-use Rattle.deck.proofs.Steps.{search-refusal-is}
+-- `deck::search_refusal` meets its contract: the refusals in their order. Assumes nothing.
 use borrow.Author.Needs.{needs}
+use Rattle.deck.proofs.Steps.{search-refusal-is}
 use Rattle.deck.proofs.search_refusal.Statement.{statement}
 use Rattle.deck.proofs.search_refusal.Tie as tie
-use Rattle.deck.proofs.search_refusal.Reads as reads
-use Rattle.deck.proofs.search_refusal.Lts as lts
-use Rattle.deck.proofs.deck_refusal.Reads as deck-refusal-reads
-use Rattle.fixed_point.proofs.first_of.Reads as first-of-reads
-use Rattle.fixed_point.proofs.reading_refusal.Reads as reading-refusal-reads
-use Rattle.fixed_point.proofs.tolerance_refusal.Reads as tolerance-refusal-reads
-use Rattle.fixed_point.proofs.weights_refusal.Reads as weights-refusal-reads
 
 reading-refusal-requires : tie.Need-reading-refusal-requires
 reading-refusal-requires c κs = search needs

@@ -1,9 +1,7 @@
--- `deck::sizes_in` meets its contract. Assumes nothing.
+-- `deck::sizes_in` meets its contract: a test for each return. Assumes nothing.
 use Rattle.deck.proofs.Steps.{sizes-last, sizes-second, sizes-first}
 use Rattle.deck.proofs.sizes_in.Statement.{statement}
 use Rattle.deck.proofs.sizes_in.Tie as tie
-use Rattle.deck.proofs.sizes_in.Reads as reads
-use Rattle.deck.proofs.sizes_in.Lts as lts
 
 returns : tie.Need-returns
 returns c = sizes-last _ _ _ (c .before .if1 .taken) (c .if2 .taken)

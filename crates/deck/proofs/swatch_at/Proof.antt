@@ -1,17 +1,12 @@
--- `deck::swatch_at` meets its contract. Assumes nothing.
-use Rattle.deck.specs.Deck.{columnsAt, swatchSample}
-use Rattle.fixed_point.specs.Samples.{labOf}
+-- `deck::swatch_at` meets its contract: what is read of the columns is the swatch, which is within the limits. Assumes nothing.
 use mathlib.Core.Path.{_≡_}
+use borrow.Author.Needs.{needs}
+use Rattle.fixed_point.specs.Samples.{labOf}
+use Rattle.deck.specs.Deck.{columnsAt, swatchSample}
 use Rattle.deck.proofs.DeckLaws.{swatch-sample-in}
 use Rattle.deck.proofs.Steps.{element-is, lab-is}
-use borrow.Author.Needs.{needs}
 use Rattle.deck.proofs.swatch_at.Statement.{statement}
 use Rattle.deck.proofs.swatch_at.Tie as tie
-use Rattle.deck.proofs.swatch_at.Reads as reads
-use Rattle.deck.proofs.swatch_at.Lts as lts
-use Rattle.difference.proofs.prepare.Reads as prepare-reads
-use Rattle.signed.proofs.from_i32.Reads as from-i32-reads
-use Rattle.signed.proofs.size.Reads as size-reads
 
 mul-from-i32 : tie.Need-mul-from-i32
 mul-from-i32 c = search needs

@@ -1,13 +1,10 @@
--- `deck::swatches_in` meets its contract. Assumes nothing.
-use Rattle.deck.proofs.Steps.{swatches-last, swatches-second, swatches-first}
-use Rattle.deck.proofs.DeckLaws.{sizes-are}
+-- `deck::swatches_in` meets its contract: a test of swatches is a test of each column. Assumes nothing.
 use mathlib.Core.Path.{sym, _∙_}
 use borrow.Author.Needs.{needs}
+use Rattle.deck.proofs.Steps.{swatches-last, swatches-second, swatches-first}
+use Rattle.deck.proofs.DeckLaws.{sizes-are}
 use Rattle.deck.proofs.swatches_in.Statement.{statement}
 use Rattle.deck.proofs.swatches_in.Tie as tie
-use Rattle.deck.proofs.swatches_in.Reads as reads
-use Rattle.deck.proofs.swatches_in.Lts as lts
-use Rattle.places.proofs.all_within.Reads as all-within-reads
 
 all-within-requires : tie.Need-all-within-requires
 all-within-requires c κs = search needs
