@@ -1,5 +1,10 @@
 /* Compiled, not run: the header's declarations must be these, or the compiler sees a conflict. */
 #include "lahsufiq.h"
+
+/* Each must be declared by the header. */
+void *declared[] = {(void *)lq_cie76,   (void *)lq_cie94,   (void *)lq_ciede2000,
+                    (void *)lq_figures, (void *)lq_verdict, (void *)lq_search};
+
 #include <stdbool.h>
 #include <stddef.h>
 #include <stdint.h>
@@ -11,7 +16,3 @@ uint32_t lq_figures(float, float, float, float, float, float, float, float, floa
 uint32_t lq_verdict(float, float, float, float, float, float, float, float, float, float, double *, uint8_t *);
 uint32_t lq_search(const int32_t *, size_t, const int32_t *, size_t, const int32_t *, size_t, float, float, float, float,
                    float, float, float, uint16_t *, size_t, size_t *);
-
-/* Each must be declared by the header itself. */
-void *declared[] = {(void *)lq_cie76,   (void *)lq_cie94,   (void *)lq_ciede2000,
-                    (void *)lq_figures, (void *)lq_verdict, (void *)lq_search};

@@ -1,5 +1,5 @@
 //! Checks what the calls make of a float, in every argument, against its exact value.
-//! With --all: all 2^32 floats, in an argument of each sort.
+//! With --all: all 2^32 floats, in an argument of each sort; with --all N, every N-th of them.
 
 use interface as lq;
 use reference::calls::{self, double};
@@ -171,15 +171,15 @@ fn random(count: usize, r: &mut Random) -> Vec<u32> {
     floats
 }
 
-/// All floats in one argument, on every processor.
-fn all(t: &mut Tally, argument: Argument) {
+/// All floats, or every so many, in one argument, on every processor.
+fn all(t: &mut Tally, argument: Argument, step: usize) {
     let workers = std::thread::available_parallelism().map_or(1, |n| n.get() as u64);
     let whole = 1u64 << 32;
     let part = |worker: u64| worker * whole / workers;
     std::thread::scope(|scope| {
         let work = |worker: u64| {
             let mut t = Tally::new("floats");
-            compare(&mut t, argument, (part(worker)..part(worker + 1)).map(|bits| bits as u32));
+            compare(&mut t, argument, (part(worker)..part(worker + 1)).step_by(step).map(|bits| bits as u32));
             t
         };
         let running: Vec<_> = (0..workers).map(|worker| scope.spawn(move || work(worker))).collect();
@@ -187,7 +187,7 @@ fn all(t: &mut Tally, argument: Argument) {
             t.add(worker.join().expect("a worker"));
         }
     });
-    t.report(&format!("all 4,294,967,296 floats as {argument:?}"));
+    t.report(&format!("every float, in steps of {step}, as {argument:?}"));
 }
 
 fn main() {
@@ -200,9 +200,11 @@ fn main() {
         compare(&mut t, argument, random(600_000, &mut r).into_iter());
         t.report(&format!("{} edges and 600000 random floats as {argument:?}", edges.len()));
     }
-    if std::env::args().nth(1).as_deref() == Some("--all") {
+    let words: Vec<String> = std::env::args().skip(1).collect();
+    if words.first().is_some_and(|word| word == "--all") {
+        let step = words.get(1).map_or(1, |word| word.parse().expect("a number of steps"));
         for argument in [L1, A1, B2, KL, Tolerance] {
-            all(&mut t, argument);
+            all(&mut t, argument, step);
         }
     }
     t.end();
