@@ -26,7 +26,7 @@ use Rattle.deck.specs.Search.{columnsMatch, columnsMatches, searchTally,
 use Rattle.deck.specs.DemandThree.{DemandThree}
 use Rattle.deck.specs.declared.Found.{Found}
 use Rattle.deck.specs.declared.Found.the-variants.{Count, Short}
-use Rattle.deck.proofs.DeckLaws.{swatch-sample-in, columns-valid, Accepts, search-accepts, found-fits, found-short, contents-fits, contents-short, answer-number, answer-refused, short-refuses}
+use Rattle.deck.proofs.DeckLaws.{swatch-sample-in, columns-valid, search-accepts, found-fits, found-short, contents-fits, contents-short, answer-number, answer-refused, short-refuses}
 
 -- a place that is listed, and what is known of every entry
 among : (P : ℕ → Type 0) (xs : List ℕ) (k : ℕ) → ((i : ℕ) → i < length xs → P (getD xs i 0)) → Among k xs → P k
@@ -47,7 +47,8 @@ pub search-number : (reading : Reading) (weights : Weights) (tolerance : Float) 
 unfolding columnsMatches columnsMatch
 search-number reading weights tolerance l a b = match-number _ _ _ _ _
 
-module _ (w : FixedWeights) (reading : Sample) (τ : ℕ) (p : WeightsIn w) (q : SampleIn reading) (swatch : ℕ → Swatch) (n : ℕ) (valid : (k : ℕ) → k < n → swatchIn (swatch k) ≡ true) where
+module _ (w : FixedWeights) (reading : Sample) (τ : ℕ) (p : WeightsIn w) (q : SampleIn reading)
+    (swatch : ℕ → Swatch) (n : ℕ) (valid : (k : ℕ) → k < n → swatchIn (swatch k) ≡ true) where
   -- the verdict's rule as an order of numbers
   within : (k : ℕ) → matchAt w reading τ swatch k ≡ true → differenceAt w reading swatch k ≤ 100 * τ
   unfolding matchAt withinTolerance
@@ -58,7 +59,8 @@ module _ (w : FixedWeights) (reading : Sample) (τ : ℕ) (p : WeightsIn w) (q :
   matches k h = le-leb _ _ h
 
   -- xs lists the places that match, and stands at the front of the list
-  module _ (xs old new : List ℕ) (count : ℕ) (h : Listed (matchAt w reading τ swatch) n xs) (size : count ≡ length xs) (front : take count new ≡ xs) where
+  module _ (xs old new : List ℕ) (count : ℕ)
+      (h : Listed (matchAt w reading τ swatch) n xs) (size : count ≡ length xs) (front : take count new ≡ xs) where
     entry : (i : ℕ) → i < count → getD new i 0 ≡ getD xs i 0
     entry i l = sym (getD-take count new i 0 l) ∙ ap (λ ys. getD ys i 0) front
 
@@ -90,7 +92,8 @@ module _ (w : FixedWeights) (reading : Sample) (τ : ℕ) (p : WeightsIn w) (q :
     }
 
   -- of the places that match, in front of the list where there is room
-  module _ (old new : List ℕ) (r : Found) (answer : r ≡ foundOf 0 (matchList w reading τ swatch n) (length old)) (contents : new ≡ contentsOf 0 (matchList w reading τ swatch n) old) where
+  module _ (old new : List ℕ) (r : Found)
+      (answer : r ≡ foundOf 0 (matchList w reading τ swatch n) (length old)) (contents : new ≡ contentsOf 0 (matchList w reading τ swatch n) old) where
     lists : Listed (matchAt w reading τ swatch) n (matchList w reading τ swatch n)
     unfolding matchList
     lists = matches-listed (matchAt w reading τ swatch) n
@@ -111,35 +114,38 @@ module _ (w : FixedWeights) (reading : Sample) (τ : ℕ) (p : WeightsIn w) (q :
 
 module _ (reading : Reading) (weights : Weights) (tolerance : Float) (l a b : List ℤ) (old new : List ℕ) (r : Found)
     (answer : r ≡ searchAnswer reading weights tolerance l a b (length old)) (contents : new ≡ searchContents reading weights tolerance l a b old) where
-  module _ (accepted : searchRefusal reading weights tolerance l a b ≡ 0) where
-    accepts : Accepts reading weights tolerance l a b
-    accepts = search-accepts reading weights tolerance l a b accepted
+  abbrev refusal : ℕ
+  refusal = searchRefusal reading weights tolerance l a b
 
-    search-listed : searchTally reading weights tolerance l a b ≤ length old → DemandThree (weightsOf weights) (sampleOf reading) (fixedSize tolerance) (columnsAt l a b) (length l) (countOf r) old new
-    unfolding columnsMatches columnsMatch
-    search-listed room =
-        matches-demand (weightsOf weights) (sampleOf reading) (fixedSize tolerance) (weights-in weights (accepts .weights-in)) (sample-in reading (accepts .reading-in)) (columnsAt l a b) (length l) (columns-valid l a b (accepts .columns-in) .swatches) old new r
-        (rw accepted at answer) (rw accepted at contents) room
+  abbrev needed : ℕ
+  needed = searchTally reading weights tolerance l a b
 
-    search-short : length old < searchTally reading weights tolerance l a b → (r ≡ Short (searchTally reading weights tolerance l a b)) × Refuses 8 (searchTally reading weights tolerance l a b) r old new
-    search-short room =
-        let e : r ≡ Short (searchTally reading weights tolerance l a b) = (rw accepted at answer) ∙ sym (found-short _ _ (search-number reading weights tolerance l a b) _ room) in
-        (e, short-refuses _ r old new e ((rw accepted at contents) ∙ sym (contents-short _ _ (search-number reading weights tolerance l a b) _ room)))
+  abbrev Demand : Type 0
+  Demand = DemandThree (weightsOf weights) (sampleOf reading) (fixedSize tolerance) (columnsAt l a b) (length l) (countOf r) old new
 
-  -- every clause that follows from the answer and the list's contents
+  number : length (columnsMatches reading weights tolerance l a b) ≡ needed
+  number = search-number reading weights tolerance l a b
+
+  search-short : refusal ≡ 0 → length old < needed → (r ≡ Short needed) × Refuses 8 needed r old new
+  search-short accepted room =
+      let e : r ≡ Short needed = (rw accepted at answer) ∙ sym (found-short _ _ number _ room) in
+      (e, short-refuses _ r old new e ((rw accepted at contents) ∙ sym (contents-short _ _ number _ room)))
+
+  search-listed : refusal ≡ 0 → needed ≤ length old → Demand
+  unfolding columnsMatches columnsMatch
+  search-listed accepted room =
+      let h = search-accepts reading weights tolerance l a b accepted in
+      matches-demand (weightsOf weights) (sampleOf reading) (fixedSize tolerance) (weights-in weights (h .weights-in)) (sample-in reading (h .reading-in))
+      (columnsAt l a b) (length l) (columns-valid l a b (h .columns-in) .swatches) old new r (rw accepted at answer) (rw accepted at contents) room
+
+  -- the clauses of the contract that follow from the answer and the list's contents
   pub search-clauses :
       (numberOf r ≡ searchNumber reading weights tolerance l a b (length old))
-      × ((0 < searchRefusal reading weights tolerance l a b → Refuses (searchRefusal reading weights tolerance l a b) 0 r old new)
-      × ((searchRefusal reading weights tolerance l a b ≡ 0 → length old < searchTally reading weights tolerance l a b → (r ≡ Short (searchTally reading weights tolerance l a b)) × Refuses 8 (searchTally reading weights tolerance l a b) r old new)
-      × ((searchRefusal reading weights tolerance l a b ≡ 0 → searchTally reading weights tolerance l a b ≤ length old → DemandThree (weightsOf weights) (sampleOf reading) (fixedSize tolerance) (columnsAt l a b) (length l) (countOf r) old new)
+      × ((0 < refusal → Refuses refusal 0 r old new)
+      × ((refusal ≡ 0 → length old < needed → (r ≡ Short needed) × Refuses 8 needed r old new)
+      × ((refusal ≡ 0 → needed ≤ length old → Demand)
       × ((l ≡ l) × ((a ≡ a) × (b ≡ b))))))
-  search-clauses = (
-    answer-number _ old new r _ _ answer (search-number reading weights tolerance l a b),
-    (
-      answer-refused _ old new r _ answer contents,
-      (
-        search-short,
-        (search-listed, (refl, (refl, refl))),
-      ),
-    ),
-  )
+  search-clauses =
+      let by-number : numberOf r ≡ searchNumber reading weights tolerance l a b (length old) = answer-number _ old new r _ _ answer number in
+      let by-refusal : 0 < refusal → Refuses refusal 0 r old new = answer-refused _ old new r _ answer contents in
+      (by-number, (by-refusal, (search-short, (search-listed, (refl, (refl, refl))))))

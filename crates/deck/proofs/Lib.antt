@@ -3,3 +3,4 @@ pub mod DeckLaws
 pub mod LightnessWindow
 pub mod Demand
 pub mod Steps
+pub mod Examples

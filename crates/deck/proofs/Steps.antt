@@ -71,21 +71,12 @@ module _ (l a b : List ℤ) where
   pub swatches-first : Sized l a b → Lightness ≡ false → false ≡ swatchesIn (columnsAt l a b) (length l)
   swatches-first s p = sym (ap (λ x. x && (Opponent a && Opponent b)) p) ∙ swatches-are s
 
-  pub refusal-none : sizesIn l a b ≡ true → swatchesIn (columnsAt l a b) (length l) ≡ true → rising (at l) (length l) ≡ true → 0 ≡ columnsRefusal l a b
+  -- the refusal, of what the tests found
+  pub refusal-is : (s t u : Bool) → sizesIn l a b ≡ s → swatchesIn (columnsAt l a b) (length l) ≡ t → rising (at l) (length l) ≡ u
+      → cond (not s) 6 (cond (not t || not u) 7 0) ≡ columnsRefusal l a b
   unfolding columnsRefusal columnsAt
-  refusal-none e f g = sym (ap₂ (λ s t. cond (not s) 6 (cond (not t || not (rising (at l) (length l))) 7 0)) e f ∙ ap (λ t. cond (not t) 7 0) g)
-
-  pub refusal-order : sizesIn l a b ≡ true → swatchesIn (columnsAt l a b) (length l) ≡ true → rising (at l) (length l) ≡ false → 7 ≡ columnsRefusal l a b
-  unfolding columnsRefusal columnsAt
-  refusal-order e f g = sym (ap₂ (λ s t. cond (not s) 6 (cond (not t || not (rising (at l) (length l))) 7 0)) e f ∙ ap (λ t. cond (not t) 7 0) g)
-
-  pub refusal-swatch : sizesIn l a b ≡ true → swatchesIn (columnsAt l a b) (length l) ≡ false → 7 ≡ columnsRefusal l a b
-  unfolding columnsRefusal columnsAt
-  refusal-swatch e f = sym (ap₂ (λ s t. cond (not s) 6 (cond (not t || not (rising (at l) (length l))) 7 0)) e f)
-
-  pub refusal-size : sizesIn l a b ≡ false → 6 ≡ columnsRefusal l a b
-  unfolding columnsRefusal
-  refusal-size e = sym (ap (λ s. cond (not s) 6 (cond (not (swatchesIn (columnsAt l a b) (length l)) || not (rising (λ k. columnsAt l a b k .l) (length l))) 7 0)) e)
+  refusal-is s t u e f g =
+      sym (ap₂ (λ x y. cond (not x) 6 (cond (not y || not (rising (at l) (length l))) 7 0)) e f ∙ ap (λ z. cond (not s) 6 (cond (not t || not z) 7 0)) g)
 
   pub search-refusal-is : (reading : Reading) (weights : Weights) (tolerance : Float)
       → firstOf (readingRefusal reading) (firstOf (weightsRefusal weights) (firstOf (toleranceRefusal tolerance) (columnsRefusal l a b))) ≡ searchRefusal reading weights tolerance l a b

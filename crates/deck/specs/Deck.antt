@@ -1,6 +1,6 @@
--- A deck of swatches, which decks and searches are refused, and which swatches match a reading. Swatches go by an access function from places to swatches,
--- and matches by a test on places, so that nothing below `columnsRefusal` depends on how a deck is kept. L, a, b, weights and tolerances are in 1/10,000
--- (paper 01's grid), differences in 10^-6.
+-- A deck of swatches, which decks and searches are refused, and which swatches match a reading. A deck is an access function from places to swatches, and a
+-- match a test on places: only `columnsAt`, `sizesIn` and `columnsRefusal` say that it is kept as three columns. L, a, b, weights and tolerances are in
+-- 1/10,000 (paper 01's grid), differences in 10^-6.
 use Prim.Native.Nat.{ℕ}
 use mathlib.Core.Bool.{Bool, not, _&&_, _||_, cond}
 use mathlib.Core.List.{List, [], _∷_}
@@ -45,11 +45,14 @@ sizesIn l a b = eqb (length a) (length l) && (eqb (length b) (length l) && leb (
 unfoldable pub swatchesIn : (ℕ → Swatch) → ℕ → Bool
 swatchesIn swatch n = every (λ k. swatchIn (swatch k)) n
 
--- 6: the columns' lengths; 7: a swatch is outside the limits, or lightness falls from one place to the next
+-- 6: the deck's size; 7: a swatch is outside the limits, or lightness falls from one place to the next
+abbrev pub deckRefusal : Bool → (ℕ → Swatch) → ℕ → ℕ
+deckRefusal sized swatch n =
+    cond (not sized) 6
+    (cond (not (swatchesIn swatch n) || not (rising (λ k. swatch k .l) n)) 7 0)
+
 unfoldable pub columnsRefusal : List ℤ → List ℤ → List ℤ → ℕ
-columnsRefusal l a b =
-    cond (not (sizesIn l a b)) 6
-    (cond (not (swatchesIn (columnsAt l a b) (length l)) || not (rising (λ k. columnsAt l a b k .l) (length l))) 7 0)
+columnsRefusal l a b = deckRefusal (sizesIn l a b) (columnsAt l a b) (length l)
 
 -- the first that applies of 1 to 7
 unfoldable pub searchRefusal : Reading → Weights → Float → List ℤ → List ℤ → List ℤ → ℕ

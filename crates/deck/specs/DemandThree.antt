@@ -14,7 +14,8 @@ abbrev pub listed : ℕ → List ℕ → List ℕ
 listed count list = take count list
 
 -- n swatches; `old` is the caller's list before the search and `new` after it
-pub record DemandThree (weights : FixedWeights) (reading : Sample) (tolerance : ℕ) (swatch : ℕ → Swatch) (n count : ℕ) (old new : List ℕ) : Type 0 where
+pub record DemandThree (weights : FixedWeights) (reading : Sample) (tolerance : ℕ) (swatch : ℕ → Swatch) (n : ℕ)
+    (count : ℕ) (old new : List ℕ) : Type 0 where
   -- a place is listed exactly when its difference is at most the tolerance, by the verdict's rule
   pub sound : (k : ℕ) → Among k (listed count new) → differenceAt weights reading swatch k ≤ 100 * tolerance
   pub complete : (k : ℕ) → k < n → differenceAt weights reading swatch k ≤ 100 * tolerance → Among k (listed count new)
@@ -24,8 +25,9 @@ pub record DemandThree (weights : FixedWeights) (reading : Sample) (tolerance : 
   -- the count is the number of the listed places, and that of the places that match
   pub number : count ≡ length (listed count new)
   pub counted : count ≡ tally (matchAt weights reading tolerance swatch) n
-  -- the lightness bound
-  pub bound : (k : ℕ) → Among k (listed count new) → 40000 * natAbs (lightnessDifference (swatchSample (swatch k)) reading) ≤ 7 * weights .l * (tolerance + 1)
+  -- the lightness bound: dL is the reading's L less the swatch's
+  pub bound : (k : ℕ) → Among k (listed count new)
+      → 40000 * natAbs (lightnessDifference (swatchSample (swatch k)) reading) ≤ 7 * weights .l * (tolerance + 1)
   -- the list keeps its length, and the entries past the count their contents
   pub size : length new ≡ length old
   pub kept : (i : ℕ) → count ≤ i → getD new i 0 ≡ getD old i 0

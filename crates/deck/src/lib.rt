@@ -32,16 +32,16 @@ pub enum Found {
 }
 
 // What a search asks of each swatch, in 1/10,000: worked out once.
-pub struct Query {
-    pub weights: FixedWeights,
-    pub reading: Prepared,
-    pub tolerance: u64,
+struct Query {
+    weights: FixedWeights,
+    reading: Prepared,
+    tolerance: u64,
 }
 
 // The places from `from` up to `to`, which is not one of them.
-pub struct Window {
-    pub from: usize,
-    pub to: usize,
+struct Window {
+    from: usize,
+    to: usize,
 }
 
 // ---- refusals

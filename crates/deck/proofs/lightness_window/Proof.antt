@@ -33,10 +33,10 @@ first-at-least-requires-2 : tie.Need-first-at-least-requires-2
 first-at-least-requires-2 c κs = search needs
 
 returns : tie.Need-returns
-returns c = (
-  split-at _ _ _ _ _ (c .before .before .before .before .to-i32 .ok) (c .before .before .before .before .to-i32 .ensures ∙ c .before .before .before .before .before .natural-difference .ensures .is) (c .before .first-at-least .ensures),
-  split-at _ _ _ _ _ (c .before .before .to-i322 .ok) (c .before .before .to-i322 .ensures ∙ c .before .before .before .natural .ensures .is) (c .first-at-least2 .ensures),
-)
+returns c =
+    let low = c .before .before .before .before .to-i32 .ensures ∙ c .before .before .before .before .before .natural-difference .ensures .is in
+    let high = c .before .before .to-i322 .ensures ∙ c .before .before .before .natural .ensures .is in
+    (split-at _ _ _ _ _ (c .before .before .before .before .to-i32 .ok) low (c .before .first-at-least .ensures), split-at _ _ _ _ _ (c .before .before .to-i322 .ok) high (c .first-at-least2 .ensures))
 
 pub lightness-window-spec : {M : Type 1} → statement M
 lightness-window-spec =

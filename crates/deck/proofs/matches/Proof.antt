@@ -25,7 +25,8 @@ gather-requires : tie.Need-gather-requires
 gather-requires c κs =
     let p = c .before .before .before .before .before .before .before .before .before .pre in
     let w = c .before .before .before .lightness-window .ensures in
-    ((c .before .before .before .before .before .before .before .before .sine-table .ensures, c .before .before .before .before .before .before .before .gaussian-table .ensures), (p .0, (p .1 .0, ((window-order _ (p .0) _ _ _ (columns-valid _ _ _ (p .1 .0)) _ (c .before .before .before .before .reach .ensures .0) _ (w .0) (w .1), w .1 .size), p .1 .1))))
+    let order = window-order _ (p .0) _ _ _ (columns-valid _ _ _ (p .1 .0)) _ (c .before .before .before .before .reach .ensures .0) _ (w .0) (w .1) in
+    ((c .before .before .before .before .before .before .before .before .sine-table .ensures, c .before .before .before .before .before .before .before .gaussian-table .ensures), (p .0, (p .1 .0, ((order, w .1 .size), p .1 .1))))
 
 returns : tie.Need-returns
 returns c =

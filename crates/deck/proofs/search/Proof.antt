@@ -16,8 +16,9 @@ search-refusal-requires c κs = search needs
 returns : tie.Need-returns
 returns c =
     let s = c .before .before .before .args in
-    let answer = refused-answer (columnsMatches (s .reading) (s .weights) (s .tolerance) (s .l .now) (s .a .now) (s .b .now)) _ _ (c .before .search-refusal .ensures) (c .if1 .taken) (length (s .places .now)) in
-    let contents = refused-contents (columnsMatches (s .reading) (s .weights) (s .tolerance) (s .l .now) (s .a .now) (s .b .now)) _ _ (c .before .search-refusal .ensures) (c .if1 .taken) (s .places .now) in
+    let matches = columnsMatches (s .reading) (s .weights) (s .tolerance) (s .l .now) (s .a .now) (s .b .now) in
+    let answer = refused-answer matches _ _ (c .before .search-refusal .ensures) (c .if1 .taken) (length (s .places .now)) in
+    let contents = refused-contents matches _ _ (c .before .search-refusal .ensures) (c .if1 .taken) (s .places .now) in
     (answer, (contents, search-clauses _ _ _ _ _ _ _ _ _ answer contents))
 
 query-of-requires : tie.Need-query-of-requires

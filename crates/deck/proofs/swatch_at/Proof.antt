@@ -2,7 +2,7 @@
 use mathlib.Core.Path.{_≡_}
 use borrow.Author.Needs.{needs}
 use Rattle.fixed_point.specs.Samples.{labOf}
-use Rattle.deck.specs.Deck.{columnsAt, swatchSample}
+use Rattle.deck.specs.Deck.{Swatch, columnsAt, swatchSample}
 use Rattle.deck.proofs.DeckLaws.{swatch-sample-in}
 use Rattle.deck.proofs.Steps.{element-is, lab-is}
 use Rattle.deck.proofs.swatch_at.Statement.{statement}
@@ -38,15 +38,25 @@ shared-slice-copy-out-from-i32-3 c = search needs
 from-i32-requires-3 : tie.Need-from-i32-requires-3
 from-i32-requires-3 c κs = search needs
 
-lab : (c : tie.After-from-i323) → labOf (record { l = c .before .before .before .before .size .result; a = c .before .before .from-i322 .result; b = c .from-i323 .result }) ≡ swatchSample (columnsAt (c .before .before .before .before .before .before .before .args .l .now) (c .before .before .before .before .before .before .before .args .a .now) (c .before .before .before .before .before .before .before .args .b .now) (c .before .before .before .before .before .before .before .args .k))
-unfolding columnsAt
+-- the swatch that a call's columns hold at its place
+swatch : tie.Start → Swatch
+swatch s = columnsAt (s .args .l .now) (s .args .a .now) (s .args .b .now) (s .args .k)
+
+lab : (c : tie.After-from-i323)
+    → labOf (record { l = c .before .before .before .before .size .result; a = c .before .before .from-i322 .result; b = c .from-i323 .result }) ≡ swatchSample (swatch (c .before .before .before .before .before .before .before))
+unfolding swatch columnsAt
 lab c =
-    lab-is _ _ _ _ _ (element-is _ (c .before .before .before .before .before .before .from-i32-arg .given) (c .before .before .before .before .before .from-i32 .ensures .is)) (c .before .before .before .before .size .ensures .is) (element-is _ (c .before .before .before .from-i32-arg2 .given) (c .before .before .from-i322 .ensures .is)) (element-is _ (c .before .from-i32-arg3 .given) (c .from-i323 .ensures .is))
+    lab-is _ _ _ _ _
+    (element-is _ (c .before .before .before .before .before .before .from-i32-arg .given) (c .before .before .before .before .before .from-i32 .ensures .is)) (c .before .before .before .before .size .ensures .is)
+    (element-is _ (c .before .before .before .from-i32-arg2 .given) (c .before .before .from-i322 .ensures .is))
+    (element-is _ (c .before .from-i32-arg3 .given) (c .from-i323 .ensures .is))
 
 prepare-requires : tie.Need-prepare-requires
+unfolding swatch
 prepare-requires c κs = rw (lab c) (swatch-sample-in _ (c .before .before .before .before .before .before .before .pre .1))
 
 returns : tie.Need-returns
+unfolding swatch
 returns c = rw (lab (c .before)) at (c .prepare .ensures)
 
 pub swatch-at-spec : {M : Type 1} → statement M

@@ -18,11 +18,13 @@ all-within-requires-3 c κs = search needs
 returns : tie.Need-returns
 returns c =
     c .all-within3 .ensures
-    ∙ swatches-last _ _ _ (sizes-are _ _ _ (c .before .before .before .before .before .pre)) (sym (c .before .before .before .before .all-within .ensures) ∙ c .before .before .before .if1 .taken) (sym (c .before .before .all-within2 .ensures) ∙ c .before .if2 .taken)
+    ∙ swatches-last _ _ _ (sizes-are _ _ _ (c .before .before .before .before .before .pre))
+    (sym (c .before .before .before .before .all-within .ensures) ∙ c .before .before .before .if1 .taken) (sym (c .before .before .all-within2 .ensures) ∙ c .before .if2 .taken)
 
 returns-2 : tie.Need-returns-2
 returns-2 c =
-    swatches-second _ _ _ (sizes-are _ _ _ (c .before .before .before .before .pre)) (sym (c .before .before .before .all-within .ensures) ∙ c .before .before .if1 .taken) (sym (c .before .all-within2 .ensures) ∙ c .if2 .left)
+    swatches-second _ _ _ (sizes-are _ _ _ (c .before .before .before .before .pre))
+    (sym (c .before .before .before .all-within .ensures) ∙ c .before .before .if1 .taken) (sym (c .before .all-within2 .ensures) ∙ c .if2 .left)
 
 returns-3 : tie.Need-returns-3
 returns-3 c =
