@@ -59,13 +59,13 @@ abbrev pub lineValues : ParsedLine → Parsed
 lineValues (Pair s t) = pair (decimalsValues s) (decimalsValues t)
 lineValues Malformed = malformed
 
--- the run x, which four digits bound
+-- the run x, of at most four digits
 pub record Digited (s : List ℕ) (x : Run) (r : Digits) : Type 0 where
   pub is : digitsRun s r ≡ x
   pub small : r .value < 10000
   pub few : r .count ≤ 4
 
--- below what seven digits hold
+-- a size below m, where there is one
 abbrev pub sizeBelow : ℕ → Size → Type 0
 sizeBelow m (SizeValue n at) = n < m
 sizeBelow m SizeMissing = Unit
@@ -101,14 +101,14 @@ pub record Pushed (line : List ℕ) (n b : ℕ) (last : List ℕ) (r : ℕ) : Ty
   pub is : heldIn last r ≡ heldWith (heldIn line n) b
   pub same : length last ≡ 96
 
--- A piece of the input read from the state h on: its first bytes, all of them unless less than 138 bytes, which an answer can have, were left of the buffer.
+-- A piece of the input, read from the state h on: `read` of its bytes. Less than all are read only where the buffer has less than 138 bytes left, the most that an answer has.
 pub record Stepped (h : Held) (chunk out last : List ℕ) (r : Progress) : Type 0 where
   pub read : r .read ≤ length chunk
   pub room : r .read < length chunk → length out < r .written + 138
   pub held : stateHeld (r .state) ≡ heldAfter h (take (r .read) chunk)
   pub text : Written out 0 (heldText h (take (r .read) chunk)) (length out) last (r .written)
 
--- where h is the state after the input, the bytes read bring it to the state after them, and what was written follows what the input wrote
+-- the bytes `more`, read where `input` was read before: the state is that of both, and what was written follows what `input` wrote
 pub record Follows (input more out : List ℕ) (r : Progress) : Type 0 where
   pub state : stateHeld (r .state) ≡ stateOf (input ++ more)
   pub text : textSoFar (input ++ more) ≡ textSoFar input ++ take (r .written) out

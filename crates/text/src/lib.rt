@@ -18,37 +18,37 @@ use fixed_point::Lab;
 use signed::Int;
 
 // A run of digits: the number, how many there are, and where the bytes go on.
-pub struct Digits {
-    pub value: u64,
-    pub count: usize,
-    pub at: usize,
+struct Digits {
+    value: u64,
+    count: usize,
+    at: usize,
 }
 
 // A number without its sign in 1/10,000, and where the bytes go on.
-pub enum Size {
+enum Size {
     Value(u64, usize),
     Missing,
 }
 
-pub enum Decimal {
+enum Decimal {
     Value(Int, usize),
     Missing,
 }
 
 // L, a and b in 1/10,000.
-pub struct Decimals {
-    pub l: Int,
-    pub a: Int,
-    pub b: Int,
+struct Decimals {
+    l: Int,
+    a: Int,
+    b: Int,
 }
 
-pub enum Triple {
+enum Triple {
     Value(Decimals, usize),
     Missing,
 }
 
 // Sample 1 and sample 2.
-pub enum ParsedLine {
+enum ParsedLine {
     Pair(Decimals, Decimals),
     Malformed,
 }
@@ -62,7 +62,7 @@ fn starts(s: &[u8], at: usize, b: u8) -> bool
     false
 }
 
-// The digit at a place, or 10.
+// The digit, from '0' to '9', at a place, or 10.
 fn digit_at(s: &[u8], at: usize) -> u64
     ensures { λ r. ⌜ DigitAt (now (s .entry)) at r ⌝ }
 {
@@ -110,7 +110,7 @@ fn read_digits(s: &[u8], at: usize, most: usize) -> Digits
     }
 }
 
-// What the first digit after the point counts less than a whole, of so many digits.
+// What brings a fraction of so many digits to 1/10,000.
 fn tens(count: usize) -> u64
     requires { ⌜ count ≤ 4 ⌝ }
     ensures { λ r. ⌜ r ≡ 10 ^ (4 - count) ⌝ }
@@ -303,13 +303,13 @@ fn put_refused(out: &mut [u8], at: usize, n: u8) -> usize
 }
 
 // The figures of a line in millionths.
-pub struct Six {
-    pub d76: Int,
-    pub d94: Int,
-    pub d00: Int,
-    pub l: Int,
-    pub c: Int,
-    pub h: Int,
+struct Six {
+    d76: Int,
+    d94: Int,
+    d00: Int,
+    l: Int,
+    c: Int,
+    h: Int,
 }
 
 fn put_six(out: &mut [u8], at: usize, f: Six) -> usize

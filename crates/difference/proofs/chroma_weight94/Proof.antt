@@ -1,3 +1,4 @@
+-- `difference::chroma_weight94` meets its contract. Assumes nothing.
 use mathlib.Core.Path.{sym, ap}
 use mathlib.Core.Bool.{Bool}
 use native.Mathlib.Omega.{arith}
@@ -5,31 +6,23 @@ use Rattle.difference.specs.Differences.{chromaWeight94}
 use borrow.Author.Needs.{needs}
 use Rattle.difference.proofs.chroma_weight94.Statement.{statement}
 use Rattle.difference.proofs.chroma_weight94.Tie as tie
-use Rattle.difference.proofs.chroma_weight94.Reads as reads
-use Rattle.difference.proofs.chroma_weight94.Lts as lts
 
--- src/lib.rt:182:29
 mul-result : tie.Need-mul-result
 mul-result c = search needs
 
--- src/lib.rt:182:16
 add-result : tie.Need-add-result
 add-result c = search needs
 
--- src/lib.rt:182:9
 returns : tie.Need-returns
 unfolding chromaWeight94
 returns c = record { is = ap (λ (t : Bool). chromaWeight94 t (c .before .args .c)) (sym (c .if1 .taken)); low = omega arith; high = omega arith }
 
--- src/lib.rt:184:18
 mul-result-2 : tie.Need-mul-result-2
 mul-result-2 c = search needs
 
--- src/lib.rt:184:5
 add-result-2 : tie.Need-add-result-2
 add-result-2 c = search needs
 
--- src/lib.rt:177:1
 returns-2 : tie.Need-returns-2
 unfolding chromaWeight94
 returns-2 c = record { is = ap (λ (t : Bool). chromaWeight94 t (c .before .args .c)) (sym (c .if1 .left)); low = omega arith; high = omega arith }

@@ -1,3 +1,4 @@
+-- `difference::cie76` meets its contract. Assumes nothing.
 use Rattle.isqrt.proofs.RootLaws.{root-lt-pow}
 use mathlib.Core.Path.{sym, ap, _∙_, subst}
 use Prim.Native.Nat.{ℕ, _+_, _*_, _≤_, _<_}
@@ -12,26 +13,16 @@ use Rattle.difference.proofs.Points.{lab-l, lab-a, lab-b}
 use borrow.Author.Needs.{needs}
 use Rattle.difference.proofs.cie76.Statement.{statement}
 use Rattle.difference.proofs.cie76.Tie as tie
-use Rattle.difference.proofs.cie76.Reads as reads
-use Rattle.difference.proofs.cie76.Lts as lts
-use Rattle.difference.proofs.sum_of_squares.Reads as sum-of-squares-reads
-use Rattle.isqrt.proofs.isqrt.Reads as isqrt-reads
-use Rattle.signed.proofs.difference.Reads as difference-reads
-use Rattle.signed.proofs.natural_difference.Reads as natural-difference-reads
 
--- src/lib.rt:170:9
 natural-difference-requires : tie.Need-natural-difference-requires
 natural-difference-requires c κs = search needs
 
--- src/lib.rt:171:9
 difference-requires : tie.Need-difference-requires
 difference-requires c κs = omega (arith, lab-a _ (c .before .pre .0), lab-a _ (c .before .pre .1))
 
--- src/lib.rt:172:9
 difference-requires-2 : tie.Need-difference-requires-2
 difference-requires-2 c κs = omega (arith, lab-b _ (c .before .before .pre .0), lab-b _ (c .before .before .pre .1))
 
--- src/lib.rt:173:26
 sizes : (c : tie.After-difference2) → (c .before .before .natural-difference .result .n ≤ 1000000) × (c .before .difference .result .n ≤ 2560000) × (c .difference2 .result .n ≤ 2560000)
 sizes c =
     let s = c .before .before .before in (
@@ -43,15 +34,12 @@ sizes c =
 sum-of-squares-requires : tie.Need-sum-of-squares-requires
 sum-of-squares-requires c κs = let h = sizes c in omega arith
 
--- src/lib.rt:173:18
 mul-isqrt : tie.Need-mul-isqrt
 mul-isqrt c = let h = sizes (c .before) in omega (arith, c .sum-of-squares .ensures .size, square-le (h .0), square-le (h .1), square-le (h .2))
 
--- src/lib.rt:173:5
 isqrt-requires : tie.Need-isqrt-requires
 isqrt-requires c κs = search needs
 
--- src/lib.rt:165:1
 returns : tie.Need-returns
 unfolding cie76Of lightnessDifference labOf
 returns c =

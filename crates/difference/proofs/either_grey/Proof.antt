@@ -1,17 +1,14 @@
+-- `difference::either_grey` meets its contract. Assumes nothing.
 use mathlib.Core.Path.{sym, ap}
 use mathlib.Core.Bool.{Bool, _||_}
 use lib.Dec.{eqb}
 use borrow.Author.Tests.{eq-eqb, ne-eqb}
 use Rattle.difference.proofs.either_grey.Statement.{statement}
 use Rattle.difference.proofs.either_grey.Tie as tie
-use Rattle.difference.proofs.either_grey.Reads as reads
-use Rattle.difference.proofs.either_grey.Lts as lts
 
--- src/lib.rt:192:9
 returns : tie.Need-returns
 returns c = sym (ap (λ (t : Bool). t || eqb (c .before .args .q2) 4) (eq-eqb _ _ (c .if1 .taken)))
 
--- src/lib.rt:188:1
 returns-2 : tie.Need-returns-2
 returns-2 c = sym (ap (λ (t : Bool). t || eqb (c .before .args .q2) 4) (ne-eqb _ _ (c .if1 .left)))
 

@@ -1,3 +1,4 @@
+-- `difference::figures` meets its contract. Assumes nothing.
 use mathlib.Core.Path.{_≡_, sym, ap, _∙_, subst}
 use Prim.Native.Nat.{ℕ, _+_, _≤_}
 use native.Mathlib.Omega.{arith}
@@ -9,21 +10,13 @@ use Rattle.difference.specs.Carried.{preparedSample}
 use Rattle.difference.proofs.Points.{chroma-in}
 use Rattle.difference.proofs.figures.Statement.{statement}
 use Rattle.difference.proofs.figures.Tie as tie
-use Rattle.difference.proofs.figures.Reads as reads
-use Rattle.difference.proofs.figures.Lts as lts
-use Rattle.chroma.proofs.ratio.Reads as ratio-reads
-use Rattle.difference.proofs.primed.Reads as primed-reads
-use Rattle.difference.proofs.worked_from.Reads as worked-from-reads
 
--- src/lib.rt:314:27
 add-ratio : tie.Need-add-ratio
 add-ratio c = omega (arith, chroma-in _ (c .before .before .pre .1 .1 .0), chroma-in _ (c .before .before .pre .1 .1 .1))
 
--- src/lib.rt:314:9
 ratio-requires : tie.Need-ratio-requires
 ratio-requires c κs = omega (arith, chroma-in _ (c .before .before .pre .1 .1 .0), chroma-in _ (c .before .before .pre .1 .1 .1))
 
--- src/lib.rt:315:47
 ratio-in : (c : tie.After-ratio) → c .ratio .result ≤ 1000000000
 ratio-in c = subst (λ (n : ℕ). n ≤ 1000000000) (sym (c .ratio .ensures)) (ratio-le _)
 
@@ -35,17 +28,14 @@ ratio-is c = c .ratio .ensures ∙ (λ i. ratioOf (c .before .before .before .pr
 primed-requires : tie.Need-primed-requires
 primed-requires c κs = (c .before .before .before .pre .1 .1 .0, ratio-in c)
 
--- src/lib.rt:315:61
 primed-requires-2 : tie.Need-primed-requires-2
 primed-requires-2 c κs = (c .before .before .before .before .pre .1 .1 .1, ratio-in (c .before))
 
--- src/lib.rt:315:5
 worked-from-requires : tie.Need-worked-from-requires
 worked-from-requires c κs =
     let s = c .before .before .before .before .before .pre in
     (s .0, (s .1, (ratio-is (c .before .before), (c .before .primed .ensures .coloured, c .primed2 .ensures .coloured))))
 
--- src/lib.rt:309:1
 returns : tie.Need-returns
 unfolding figuresOf
 returns c =

@@ -1,3 +1,4 @@
+-- `difference::hue_figures` meets its contract. Assumes nothing.
 use mathlib.Core.Path.{_≡_, refl, sym, subst}
 use Prim.Native.Nat.{ℕ, _<_}
 use Rattle.signed.specs.Value.{int}
@@ -13,30 +14,19 @@ use Rattle.difference.proofs.Pairs.{primed-of, both-coloured, pair-hue-
 use borrow.Author.Needs.{needs}
 use Rattle.difference.proofs.hue_figures.Statement.{statement}
 use Rattle.difference.proofs.hue_figures.Tie as tie
-use Rattle.difference.proofs.hue_figures.Reads as reads
-use Rattle.difference.proofs.hue_figures.Lts as lts
-use Rattle.difference.proofs.either_grey.Reads as either-grey-reads
-use Rattle.hue.proofs.hue.Reads as hue-reads
-use Rattle.hue_difference.proofs.hue_difference.Reads as hue-difference-reads
-use Rattle.hue_difference.proofs.mean_hue.Reads as mean-hue-reads
-use Rattle.hue_difference.proofs.side_of.Reads as side-of-reads
 
--- src/lib.rt:236:9
 side-of-requires : tie.Need-side-of-requires
 side-of-requires c κs =
     let s = c .pre .1 .0 .0 in
     let t = c .pre .1 .0 .1 in
     ((size-of _ (a-in _ s), size-of _ (b-in _ s)), ((size-of _ (a-in _ t), size-of _ (b-in _ t)), (s .quadrant, t .quadrant)))
 
--- src/lib.rt:237:9
 hue-requires : tie.Need-hue-requires
 hue-requires c κs = search needs
 
--- src/lib.rt:238:9
 hue-requires-2 : tie.Need-hue-requires-2
 hue-requires-2 c κs = search needs
 
--- src/lib.rt:239:9
 hue-difference-requires : tie.Need-hue-difference-requires
 hue-difference-requires c κs =
     let s = c .before .before .before in
@@ -44,18 +34,15 @@ hue-difference-requires c κs =
     let q = s .pre .1 .1 .1 in
     (primed-of (p .bounded), (primed-of (q .bounded), both-coloured (s .args .s) (s .args .t) _ _ _ (c .before .before .side-of .ensures) p q))
 
--- src/lib.rt:240:41
 either-grey-requires : tie.Need-either-grey-requires
 either-grey-requires c κs = search needs
 
--- src/lib.rt:240:9
 hue-under : (p : Coordinates) {r : ℕ} → r ≡ hueOf (int (p .a)) (int (p .b)) (p .chroma) → r < 360000000
 hue-under p e = subst (λ (n : ℕ). n < 360000000) (sym e) (hue-lt (int (p .a)) (int (p .b)) (p .chroma))
 
 mean-hue-requires : tie.Need-mean-hue-requires
 mean-hue-requires c κs = (hue-under (c .before .before .before .before .before .args .p) (c .before .before .before .hue .ensures), hue-under (c .before .before .before .before .before .args .q) (c .before .before .hue2 .ensures))
 
--- src/lib.rt:230:1
 returns : tie.Need-returns
 unfolding pointHue pointOf pairFar preparedSample
 returns c =

@@ -1,3 +1,4 @@
+-- `difference::part` meets its contract. Assumes nothing.
 use mathlib.Core.Path.{ap, _∙_}
 use Prim.Native.Nat.{ℕ, _/_}
 use lib.IntN.{ℤ, pos}
@@ -6,20 +7,13 @@ use Rattle.difference.specs.Parts.{partOf}
 use borrow.Author.Needs.{needs}
 use Rattle.difference.proofs.part.Statement.{statement}
 use Rattle.difference.proofs.part.Tie as tie
-use Rattle.difference.proofs.part.Reads as reads
-use Rattle.difference.proofs.part.Lts as lts
-use Rattle.signed.proofs.divided.Reads as divided-reads
-use Rattle.signed.proofs.scaled.Reads as scaled-reads
 
--- src/lib.rt:117:21
 scaled-requires : tie.Need-scaled-requires
 scaled-requires c κs = search needs
 
--- src/lib.rt:117:5
 divided-requires : tie.Need-divided-requires
 divided-requires c κs = search needs
 
--- src/lib.rt:112:1
 returns : tie.Need-returns
 unfolding partOf
 returns c = record {

@@ -1,3 +1,4 @@
+-- `difference::parts` meets its contract. Assumes nothing.
 use mathlib.Core.Path.{ap, _∙_}
 use Prim.Native.Nat.{ℕ}
 use native.Mathlib.Nat.{le-trans, le-of-eq}
@@ -9,36 +10,25 @@ use Rattle.difference.proofs.Sizes.{quotient-le}
 use borrow.Author.Needs.{needs}
 use Rattle.difference.proofs.parts.Statement.{statement}
 use Rattle.difference.proofs.parts.Tie as tie
-use Rattle.difference.proofs.parts.Reads as reads
-use Rattle.difference.proofs.parts.Lts as lts
-use Rattle.difference.proofs.part.Reads as part-reads
-use Rattle.difference.proofs.weight.Reads as weight-reads
 
--- src/lib.rt:139:35
 weight-requires : tie.Need-weight-requires
 weight-requires c κs = search needs
 
--- src/lib.rt:139:12
 part-requires : tie.Need-part-requires
 part-requires c κs = search needs
 
--- src/lib.rt:140:32
 weight-requires-2 : tie.Need-weight-requires-2
 weight-requires-2 c κs = search needs
 
--- src/lib.rt:140:12
 part-requires-2 : tie.Need-part-requires-2
 part-requires-2 c κs = search needs
 
--- src/lib.rt:141:32
 weight-requires-3 : tie.Need-weight-requires-3
 weight-requires-3 c κs = search needs
 
--- src/lib.rt:141:12
 part-requires-3 : tie.Need-part-requires-3
 part-requires-3 c κs = search needs
 
--- src/lib.rt:130:1
 returns : tie.Need-returns
 unfolding partsOf partedOf
 returns c =

@@ -1,3 +1,4 @@
+-- `difference::parts94` meets its contract. Assumes nothing.
 use mathlib.Core.Path.{ap, _∙_}
 use Prim.Native.Nat.{ℕ, _≤_}
 use native.Mathlib.Omega.{arith}
@@ -10,35 +11,22 @@ use Rattle.difference.proofs.Points.{l-in, chroma-in}
 use borrow.Author.Needs.{needs}
 use Rattle.difference.proofs.parts94.Statement.{statement}
 use Rattle.difference.proofs.parts94.Tie as tie
-use Rattle.difference.proofs.parts94.Reads as reads
-use Rattle.difference.proofs.parts94.Lts as lts
-use Rattle.difference.proofs.chroma_weight94.Reads as chroma-weight94-reads
-use Rattle.difference.proofs.hue94.Reads as hue94-reads
-use Rattle.difference.proofs.hue_weight94.Reads as hue-weight94-reads
-use Rattle.difference.proofs.parts.Reads as parts-reads
-use Rattle.signed.proofs.natural_difference.Reads as natural-difference-reads
 
--- src/lib.rt:217:9
 hue94-requires : tie.Need-hue94-requires
 hue94-requires c κs = search needs
 
--- src/lib.rt:218:9
 natural-difference-requires : tie.Need-natural-difference-requires
 natural-difference-requires c κs = search needs
 
--- src/lib.rt:219:9
 natural-difference-requires-2 : tie.Need-natural-difference-requires-2
 natural-difference-requires-2 c κs = search needs
 
--- src/lib.rt:220:9
 chroma-weight94-requires : tie.Need-chroma-weight94-requires
 chroma-weight94-requires c κs = omega (arith, chroma-in _ (c .before .before .before .pre .1 .0), chroma-in _ (c .before .before .before .pre .1 .1))
 
--- src/lib.rt:221:9
 hue-weight94-requires : tie.Need-hue-weight94-requires
 hue-weight94-requires c κs = omega (arith, chroma-in _ (c .before .before .before .before .pre .1 .0), chroma-in _ (c .before .before .before .before .pre .1 .1))
 
--- src/lib.rt:222:5
 parts-requires : tie.Need-parts-requires
 parts-requires c κs =
     let s = c .before .before .before .before .before .pre in
@@ -48,7 +36,6 @@ parts-requires c κs =
     let sh = c .hue-weight94 .ensures in
     (s .0, ((l, (d, c .before .before .before .before .hue94 .ensures .size)), (omega arith, ((sc .low, sc .high), (sh .low, sh .high)))))
 
--- src/lib.rt:211:1
 returns : tie.Need-returns
 unfolding parts94Of lightnessDifference chromaDifference plainOf preparedSample
 returns c =

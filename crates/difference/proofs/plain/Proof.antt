@@ -1,20 +1,15 @@
+-- `difference::plain` meets its contract. Assumes nothing.
 use Rattle.difference.proofs.Sizes.{size-of}
 use Rattle.difference.proofs.Points.{a-in, b-in, stands-plain}
 use Rattle.difference.proofs.plain.Statement.{statement}
 use Rattle.difference.proofs.plain.Tie as tie
-use Rattle.difference.proofs.plain.Reads as reads
-use Rattle.difference.proofs.plain.Lts as lts
-use Rattle.chroma.proofs.primed_b.Reads as primed-b-reads
 
--- src/lib.rt:87:12
 primed-b-requires : tie.Need-primed-b-requires
 primed-b-requires c κs = size-of _ (a-in _ (c .pre))
 
--- src/lib.rt:88:12
 primed-b-requires-2 : tie.Need-primed-b-requires-2
 primed-b-requires-2 c κs = size-of _ (b-in _ (c .before .pre))
 
--- src/lib.rt:82:1
 returns : tie.Need-returns
 returns c =
     let s = c .before .before in

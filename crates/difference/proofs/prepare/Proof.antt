@@ -1,3 +1,4 @@
+-- `difference::prepare` meets its contract. Assumes nothing.
 use mathlib.Core.Path.{refl}
 use Prim.Native.Nat.{_≤_}
 use lib.IntN.{natAbs}
@@ -9,12 +10,7 @@ use Rattle.difference.proofs.Sizes.{size-of}
 use borrow.Author.Needs.{needs}
 use Rattle.difference.proofs.prepare.Statement.{statement}
 use Rattle.difference.proofs.prepare.Tie as tie
-use Rattle.difference.proofs.prepare.Reads as reads
-use Rattle.difference.proofs.prepare.Lts as lts
-use Rattle.chroma.proofs.chroma.Reads as chroma-reads
-use Rattle.hue.proofs.quadrant.Reads as quadrant-reads
 
--- src/lib.rt:63:17
 a-in : (c : tie.Start) → natAbs (int (c .args .s .a)) ≤ 1280000
 unfolding labOf
 a-in c = c .pre .a
@@ -26,11 +22,9 @@ b-in c = c .pre .b
 chroma-requires : tie.Need-chroma-requires
 chroma-requires c κs = let s = c .before .before in (size-of _ (a-in s), size-of _ (b-in s))
 
--- src/lib.rt:64:19
 quadrant-requires : tie.Need-quadrant-requires
 quadrant-requires c κs = search needs
 
--- src/lib.rt:53:1
 returns : tie.Need-returns
 unfolding labOf preparedSample sampleChroma
 returns c = record { is = refl; ready = record { within = c .before .before .before .before .pre; chroma = c .before .chroma .ensures; quadrant = c .quadrant .ensures } }

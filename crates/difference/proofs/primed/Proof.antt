@@ -1,27 +1,19 @@
+-- `difference::primed` meets its contract. Assumes nothing.
 use Rattle.difference.proofs.Sizes.{size-of}
 use Rattle.difference.proofs.Points.{a-in, b-in, stands-primed}
 use borrow.Author.Needs.{needs}
 use Rattle.difference.proofs.primed.Statement.{statement}
 use Rattle.difference.proofs.primed.Tie as tie
-use Rattle.difference.proofs.primed.Reads as reads
-use Rattle.difference.proofs.primed.Lts as lts
-use Rattle.chroma.proofs.primed_a.Reads as primed-a-reads
-use Rattle.chroma.proofs.primed_b.Reads as primed-b-reads
-use Rattle.chroma.proofs.primed_chroma.Reads as primed-chroma-reads
 
--- src/lib.rt:72:9
 primed-a-requires : tie.Need-primed-a-requires
 primed-a-requires c κs = (size-of _ (a-in _ (c .pre .0)), c .pre .1)
 
--- src/lib.rt:73:9
 primed-b-requires : tie.Need-primed-b-requires
 primed-b-requires c κs = size-of _ (b-in _ (c .before .pre .0))
 
--- src/lib.rt:77:17
 primed-chroma-requires : tie.Need-primed-chroma-requires
 primed-chroma-requires c κs = search needs
 
--- src/lib.rt:67:1
 returns : tie.Need-returns
 returns c =
     let s = c .before .before .before in

@@ -1,3 +1,4 @@
+-- `difference::root_of_parts` meets its contract. Assumes nothing.
 use Rattle.isqrt.proofs.RootLaws.{root-lt-pow}
 use mathlib.Core.Path.{sym, ap, _∙_, subst}
 use Prim.Native.Nat.{ℕ, _≤_, _<_}
@@ -13,26 +14,13 @@ use Rattle.difference.proofs.Sizes.{square-le}
 use borrow.Author.Needs.{needs}
 use Rattle.difference.proofs.root_of_parts.Statement.{statement}
 use Rattle.difference.proofs.root_of_parts.Tie as tie
-use Rattle.difference.proofs.root_of_parts.Reads as reads
-use Rattle.difference.proofs.root_of_parts.Lts as lts
-use Rattle.difference.proofs.sum_of_squares.Reads as sum-of-squares-reads
-use Rattle.isqrt.proofs.isqrt.Reads as isqrt-reads
-use Rattle.signed.proofs.difference.Reads as difference-reads
-use Rattle.signed.proofs.divided.Reads as divided-reads
-use Rattle.signed.proofs.natural.Reads as natural-reads
-use Rattle.signed.proofs.product.Reads as product-reads
-use Rattle.signed.proofs.scaled.Reads as scaled-reads
-use Rattle.signed.proofs.size.Reads as size-reads
 
--- src/lib.rt:160:55
 scaled-requires : tie.Need-scaled-requires
 scaled-requires c κs = omega (arith, mul-le-mul (c .pre .0 .h) (c .pre .1))
 
--- src/lib.rt:160:39
 divided-requires : tie.Need-divided-requires
 divided-requires c κs = search needs
 
--- src/lib.rt:160:9
 -- h R / 10^9
 turn-le : (c : tie.After-divided) → c .divided .result .n ≤ 1846042254
 turn-le c = omega (arith, c .divided .ensures .size, c .before .scaled .ensures .size, mul-le-mul (c .before .before .pre .0 .h) (c .before .before .pre .1))
@@ -40,15 +28,12 @@ turn-le c = omega (arith, c .divided .ensures .size, c .before .scaled .ensures 
 product-requires : tie.Need-product-requires
 product-requires c κs = omega (arith, mul-le-mul (c .before .before .pre .0 .c) (turn-le c))
 
--- src/lib.rt:161:31
 sum-of-squares-requires : tie.Need-sum-of-squares-requires
 sum-of-squares-requires c κs = search needs
 
--- src/lib.rt:161:9
 natural-requires : tie.Need-natural-requires
 natural-requires c κs = search needs
 
--- src/lib.rt:162:31
 difference-requires : tie.Need-difference-requires
 difference-requires c κs =
     let s = c .before .before .before .before .before in
@@ -63,15 +48,12 @@ difference-requires c κs =
       mul-le-mul (s .pre .0 .c) (turn-le (c .before .before .before)),
     )
 
--- src/lib.rt:162:18
 size-requires : tie.Need-size-requires
 size-requires c κs = search needs
 
--- src/lib.rt:162:5
 isqrt-requires : tie.Need-isqrt-requires
 isqrt-requires c κs = search needs
 
--- src/lib.rt:155:1
 returns : tie.Need-returns
 unfolding combined sumOf partedOf
 returns c =

@@ -1,3 +1,4 @@
+-- `difference::sum_of_squares` meets its contract. Assumes nothing.
 use mathlib.Core.Path.{_≡_, refl, sym, ap}
 use Prim.Native.Nat.{ℕ, _+_, _*_}
 use native.Mathlib.Omega.{arith}
@@ -8,10 +9,7 @@ use Rattle.difference.specs.Parts.{squared}
 use Rattle.difference.proofs.Sizes.{square-le}
 use Rattle.difference.proofs.sum_of_squares.Statement.{statement}
 use Rattle.difference.proofs.sum_of_squares.Tie as tie
-use Rattle.difference.proofs.sum_of_squares.Reads as reads
-use Rattle.difference.proofs.sum_of_squares.Lts as lts
 
--- src/lib.rt:151:5
 squares : (x : Int) → x .n * x .n ≡ squared (int x)
 unfolding squared
 squares x = ap (λ (n : ℕ). n * n) (sym (int-size x))
@@ -19,23 +17,18 @@ squares x = ap (λ (n : ℕ). n * n) (sym (int-size x))
 mul-result : tie.Need-mul-result
 mul-result c = omega (arith, square-le (c .before .pre .0))
 
--- src/lib.rt:151:17
 mul-result-2 : tie.Need-mul-result-2
 mul-result-2 c = omega (arith, square-le (c .before .before .pre .1 .0))
 
--- src/lib.rt:151:5
 add-result : tie.Need-add-result
 add-result c = omega (arith, square-le (c .before .before .pre .0), square-le (c .before .before .pre .1 .0))
 
--- src/lib.rt:151:29
 mul-result-3 : tie.Need-mul-result-3
 mul-result-3 c = omega (arith, square-le (c .before .before .before .pre .1 .1))
 
--- src/lib.rt:151:5
 add-result-2 : tie.Need-add-result-2
 add-result-2 c = omega (arith, square-le (c .before .before .before .pre .0), square-le (c .before .before .before .pre .1 .0), square-le (c .before .before .before .pre .1 .1))
 
--- src/lib.rt:147:1
 returns : tie.Need-returns
 returns c = record {
   is = λ i. squares (c .before .before .before .args .x) i + squares (c .before .before .before .args .y) i + squares (c .before .before .before .args .z) i;

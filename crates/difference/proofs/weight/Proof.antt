@@ -1,17 +1,14 @@
+-- `difference::weight` meets its contract. Assumes nothing.
 use mathlib.Core.Path.{refl}
 use native.Mathlib.Omega.{arith}
 use native.Mathlib.Nat.{mul-le-mul}
 use Rattle.difference.specs.Parts.{weighted}
 use Rattle.difference.proofs.weight.Statement.{statement}
 use Rattle.difference.proofs.weight.Tie as tie
-use Rattle.difference.proofs.weight.Reads as reads
-use Rattle.difference.proofs.weight.Lts as lts
 
--- src/lib.rt:126:5
 mul-result : tie.Need-mul-result
 mul-result c = omega (arith, mul-le-mul (c .pre .0 .high) (c .pre .1 .1))
 
--- src/lib.rt:121:1
 returns : tie.Need-returns
 unfolding weighted
 returns c = (refl, omega (arith, mul-le-mul (c .pre .0 .low) (c .pre .1 .0)))

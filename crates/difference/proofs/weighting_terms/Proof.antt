@@ -1,3 +1,4 @@
+-- `difference::weighting_terms` meets its contract. Assumes nothing.
 use mathlib.Core.Path.{ap, _∙_}
 use Prim.Native.Nat.{ℕ}
 use native.Mathlib.Nat.{le-trans, le-of-eq}
@@ -9,40 +10,25 @@ use Rattle.difference.specs.Pair.{termsOf}
 use borrow.Author.Needs.{needs}
 use Rattle.difference.proofs.weighting_terms.Statement.{statement}
 use Rattle.difference.proofs.weighting_terms.Tie as tie
-use Rattle.difference.proofs.weighting_terms.Reads as reads
-use Rattle.difference.proofs.weighting_terms.Lts as lts
-use Rattle.chroma.proofs.ratio.Reads as ratio-reads
-use Rattle.weighting.proofs.chroma_weight.Reads as chroma-weight-reads
-use Rattle.weighting.proofs.hue_term.Reads as hue-term-reads
-use Rattle.weighting.proofs.hue_weight.Reads as hue-weight-reads
-use Rattle.weighting.proofs.lightness_weight.Reads as lightness-weight-reads
-use Rattle.weighting.proofs.rotation_term.Reads as rotation-term-reads
 
--- src/lib.rt:101:9
 hue-term-requires : tie.Need-hue-term-requires
 hue-term-requires c κs = search needs
 
--- src/lib.rt:104:13
 lightness-weight-requires : tie.Need-lightness-weight-requires
 lightness-weight-requires c κs = search needs
 
--- src/lib.rt:105:13
 chroma-weight-requires : tie.Need-chroma-weight-requires
 chroma-weight-requires c κs = search needs
 
--- src/lib.rt:106:13
 hue-weight-requires : tie.Need-hue-weight-requires
 hue-weight-requires c κs = (omega arith, le-trans (le-of-eq (c .before .before .hue-term .ensures)) (hue-term-le _))
 
--- src/lib.rt:107:55
 ratio-requires : tie.Need-ratio-requires
 ratio-requires c κs = search needs
 
--- src/lib.rt:107:12
 rotation-term-requires : tie.Need-rotation-term-requires
 rotation-term-requires c κs = (c .before .before .before .before .before .pre .0, (c .before .before .before .before .before .pre .1 .0, (le-trans (le-of-eq (c .ratio .ensures)) (ratio-le _), c .before .before .before .before .before .pre .1 .1 .1 .1)))
 
--- src/lib.rt:94:1
 returns : tie.Need-returns
 unfolding termsOf
 returns c =

@@ -1,3 +1,4 @@
+-- `difference::worked_from` meets its contract. Assumes nothing.
 use Prim.Native.Nat.{_+_, _≤_}
 use native.Mathlib.Omega.{arith}
 use Rattle.fixed_point.specs.Samples.{Sample}
@@ -8,23 +9,13 @@ use Rattle.difference.proofs.Pairs.{terms-in, worked-is}
 use borrow.Author.Needs.{needs}
 use Rattle.difference.proofs.worked_from.Statement.{statement}
 use Rattle.difference.proofs.worked_from.Tie as tie
-use Rattle.difference.proofs.worked_from.Reads as reads
-use Rattle.difference.proofs.worked_from.Lts as lts
-use Rattle.difference.proofs.hue_figures.Reads as hue-figures-reads
-use Rattle.difference.proofs.parts.Reads as parts-reads
-use Rattle.difference.proofs.root_of_parts.Reads as root-of-parts-reads
-use Rattle.difference.proofs.weighting_terms.Reads as weighting-terms-reads
-use Rattle.signed.proofs.natural_difference.Reads as natural-difference-reads
 
--- src/lib.rt:290:9
 hue-figures-requires : tie.Need-hue-figures-requires
 hue-figures-requires c κs = search needs
 
--- src/lib.rt:291:61
 add-weighting-terms : tie.Need-add-weighting-terms
 add-weighting-terms c = search needs
 
--- src/lib.rt:291:9
 sum-le : {s t : Sample} {p q : Coordinates} → Coloured s p → Coloured t q → p .chroma + q .chroma ≤ 4615105632
 sum-le u v = omega (arith, u .bounded .chroma, v .bounded .chroma)
 
@@ -33,15 +24,12 @@ weighting-terms-requires c κs =
     let s = c .before .before .before .pre in
     (s .0 .0, (s .0 .1, ((l-in _ (s .1 .0 .1 .0), l-in _ (s .1 .0 .1 .1)), (sum-le (s .1 .1 .1 .0) (s .1 .1 .1 .1), c .before .before .hue-figures .ensures .mean-size))))
 
--- src/lib.rt:292:9
 natural-difference-requires : tie.Need-natural-difference-requires
 natural-difference-requires c κs = search needs
 
--- src/lib.rt:293:9
 natural-difference-requires-2 : tie.Need-natural-difference-requires-2
 natural-difference-requires-2 c κs = search needs
 
--- src/lib.rt:294:9
 parts-requires : tie.Need-parts-requires
 parts-requires c κs =
     let s = c .before .before .before .before .before .before .pre in
@@ -52,14 +40,12 @@ parts-requires c κs =
     let w = terms-in _ _ _ _ t (l-in _ (s .1 .0 .1 .0)) (l-in _ (s .1 .0 .1 .1)) (sum-le (s .1 .1 .1 .0) (s .1 .1 .1 .1)) in
     (s .1 .0 .0, ((l, (d, m .hue-size)), omega (arith, w .sl .0, w .sl .1, w .sc .0, w .sc .1, w .sh .0, w .sh .1)))
 
--- src/lib.rt:295:9
 root-of-parts-requires : tie.Need-root-of-parts-requires
 root-of-parts-requires c κs =
     let s = c .before .before .before .before .before .before .before .pre in
     let w = terms-in _ _ _ _ (c .before .before .before .weighting-terms .ensures) (l-in _ (s .1 .0 .1 .0)) (l-in _ (s .1 .0 .1 .1)) (sum-le (s .1 .1 .1 .0) (s .1 .1 .1 .1)) in
     (c .parts .ensures .small, w .r)
 
--- src/lib.rt:274:1
 returns : tie.Need-returns
 returns c =
     let s = c .before .before .before .before .before .before .before .before in

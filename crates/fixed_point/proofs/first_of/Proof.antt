@@ -1,17 +1,14 @@
+-- `fixed_point::first_of` meets its contract. Assumes nothing.
 use mathlib.Core.Path.{_≡_, refl}
 use Prim.Native.Nat.{ℕ, zero, suc}
 use Rattle.fixed_point.specs.Refusals.{firstOf}
 use borrow.Author.Needs.{needs}
 use Rattle.fixed_point.proofs.first_of.Statement.{statement}
 use Rattle.fixed_point.proofs.first_of.Tie as tie
-use Rattle.fixed_point.proofs.first_of.Reads as reads
-use Rattle.fixed_point.proofs.first_of.Lts as lts
 
--- src/lib.rt:120:1
 returns : tie.Need-returns
 returns c = search needs
 
--- src/lib.rt:120:1
 -- a first refusal that applies is the one
 other : (m n : ℕ) → (m ≡ 0 → ⊥) → m ≡ firstOf m n
 other zero n h = absurd (h refl)

@@ -1,3 +1,4 @@
+-- `fixed_point::fixed` meets its contract. Assumes nothing.
 use mathlib.Core.Path.{ap, _∙_}
 use Prim.Native.Nat.{ℕ}
 use lib.Ieee.{lt, ofBits}
@@ -7,15 +8,10 @@ use Rattle.fixed_point.proofs.FixedLaws.{sign-is}
 use borrow.Author.Needs.{needs}
 use Rattle.fixed_point.proofs.fixed.Statement.{statement}
 use Rattle.fixed_point.proofs.fixed.Tie as tie
-use Rattle.fixed_point.proofs.fixed.Reads as reads
-use Rattle.fixed_point.proofs.fixed.Lts as lts
-use Rattle.fixed_point.proofs.fixed_size.Reads as fixed-size-reads
 
--- src/lib.rt:174:12
 fixed-size-requires : tie.Need-fixed-size-requires
 fixed-size-requires c κs = search needs
 
--- src/lib.rt:168:1
 returns : tie.Need-returns
 unfolding int ofBits
 returns c = ap (λ (n : ℕ). withSign (lt (c .before .args .x) zeroF) n) (c .fixed-size .ensures) ∙ sign-is (c .before .args .x) (c .before .pre .is-finite)

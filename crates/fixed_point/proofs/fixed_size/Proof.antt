@@ -1,3 +1,4 @@
+-- `fixed_point::fixed_size` meets its contract. Assumes nothing.
 use mathlib.Core.Path.{_≡_, sym, _∙_, subst}
 use Prim.Native.Nat.{ℕ, _*_, _/_, _<_}
 use native.Mathlib.Omega.{arith}
@@ -6,17 +7,10 @@ use Rattle.fixed_point.proofs.Nearest.{small, cut-asks, cut-is, cut-sma
 use borrow.Author.Needs.{needs}
 use Rattle.fixed_point.proofs.fixed_size.Statement.{statement}
 use Rattle.fixed_point.proofs.fixed_size.Tie as tie
-use Rattle.fixed_point.proofs.fixed_size.Reads as reads
-use Rattle.fixed_point.proofs.fixed_size.Lts as lts
-use Rattle.fixed_point.proofs.half.Reads as half-reads
-use Rattle.fixed_point.proofs.halves.Reads as halves-reads
-use Rattle.std.proofs.num.truncating_f64_to_u64.Reads as truncating-f64-to-u64-reads
 
--- src/lib.rt:156:9
 halves-requires : tie.Need-halves-requires
 halves-requires c κs = search needs
 
--- src/lib.rt:157:9
 truncating-f64-to-u64-requires : tie.Need-truncating-f64-to-u64-requires
 truncating-f64-to-u64-requires c κs = cut-asks _ _ _ (small _ (c .before .pre)) (c .halves .ensures)
 
@@ -30,15 +24,12 @@ few c = subst (λ (n : ℕ). n < 2560001) (sym (cut c)) (cut-small _ _ (small _ 
 returns : tie.Need-returns
 returns c = size-even _ (c .before .before .before .pre) _ (cut (c .before)) (c .if1 .taken)
 
--- src/lib.rt:162:13
 int-to-float-if2 : tie.Need-int-to-float-if2
 int-to-float-if2 c = cast-asks _ (few (c .before .before))
 
--- src/lib.rt:163:9
 half-requires : tie.Need-half-requires
 half-requires c κs = omega (arith, few (c .before .before .before))
 
--- src/lib.rt:163:9
 returns-2 : tie.Need-returns-2
 returns-2 c =
     let at = c .before .before .before .before in
@@ -46,11 +37,9 @@ returns-2 c =
     ∙ size-half _ (at .before .before .pre) _ (cut at) (c .before .before .before .if1 .left)
     (equal-whole _ _ _ _ _ (at .before .halves .ensures) (whole-value _ (few at)) (c .before .if2 .taken))
 
--- src/lib.rt:165:5
 add-result : tie.Need-add-result
 add-result c = search needs
 
--- src/lib.rt:152:1
 returns-3 : tie.Need-returns-3
 returns-3 c =
     let at = c .before .before .before in

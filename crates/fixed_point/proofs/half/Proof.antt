@@ -1,16 +1,13 @@
+-- `fixed_point::half` meets its contract. Assumes nothing.
 use mathlib.Core.Path.{refl}
 use Rattle.fixed_point.specs.Rounding.{halfOf}
 use borrow.Author.Needs.{needs}
 use Rattle.fixed_point.proofs.half.Statement.{statement}
 use Rattle.fixed_point.proofs.half.Tie as tie
-use Rattle.fixed_point.proofs.half.Reads as reads
-use Rattle.fixed_point.proofs.half.Lts as lts
 
--- src/lib.rt:131:5
 add-result : tie.Need-add-result
 add-result c = search needs
 
--- src/lib.rt:127:1
 returns : tie.Need-returns
 unfolding halfOf
 returns c = refl

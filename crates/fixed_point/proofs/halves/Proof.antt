@@ -1,23 +1,18 @@
+-- `fixed_point::halves` meets its contract. Assumes nothing.
 use lib.Ieee.{ofBits}
 use denote.Floats.{passes}
 use Rattle.fixed_point.proofs.Sizes.{zero-size, negative-size, positive-size}
 use borrow.Author.Needs.{needs}
 use Rattle.fixed_point.proofs.halves.Statement.{statement}
 use Rattle.fixed_point.proofs.halves.Tie as tie
-use Rattle.fixed_point.proofs.halves.Reads as reads
-use Rattle.fixed_point.proofs.halves.Lts as lts
-use Rattle.std.proofs.num.f32_to_f64_with_nan.Reads as f32-to-f64-with-nan-reads
 
--- src/lib.rt:140:9
 f32-to-f64-with-nan-requires : tie.Need-f32-to-f64-with-nan-requires
 f32-to-f64-with-nan-requires c κs = search needs
 
--- src/lib.rt:142:9
 returns : tie.Need-returns
 unfolding ofBits
 returns c = zero-size (c .before .before .args .x) (rw (c .before .f32-to-f64-with-nan .ensures) at (c .if1 .taken))
 
--- src/lib.rt:145:9
 returns-2 : tie.Need-returns-2
 unfolding ofBits
 returns-2 c =
@@ -25,7 +20,6 @@ returns-2 c =
     let same = c .before .before .f32-to-f64-with-nan .ensures in
     rw same (negative-size (s .args .x) (passes _ (s .good .0 .1)) (s .pre) (rw same at (c .if2 .taken)))
 
--- src/lib.rt:136:1
 returns-3 : tie.Need-returns-3
 unfolding ofBits
 returns-3 c =

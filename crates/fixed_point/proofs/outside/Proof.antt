@@ -1,18 +1,14 @@
+-- `fixed_point::outside` meets its contract. Assumes nothing.
 use Rattle.fixed_point.proofs.Flags.{outside-none, outside-low, outside-high}
 use Rattle.fixed_point.proofs.outside.Statement.{statement}
 use Rattle.fixed_point.proofs.outside.Tie as tie
-use Rattle.fixed_point.proofs.outside.Reads as reads
-use Rattle.fixed_point.proofs.outside.Lts as lts
 
--- src/lib.rt:62:13
 returns : tie.Need-returns
 returns c = outside-none (c .before .if1 .taken) (c .if2 .taken)
 
--- src/lib.rt:57:1
 returns-2 : tie.Need-returns-2
 returns-2 c = outside-high (c .before .if1 .taken) (c .if2 .left)
 
--- src/lib.rt:57:1
 returns-3 : tie.Need-returns-3
 returns-3 c = outside-low _ (c .if1 .left)
 

@@ -1,3 +1,4 @@
+-- `fixed_point::reading_refusal` meets its contract. Assumes nothing.
 use mathlib.Core.Path.{_≡_, refl, sym, _∙_}
 use mathlib.Core.Bool.{false, not, _||_}
 use lib.Ieee.{ofBits, neg}
@@ -7,10 +8,6 @@ use Rattle.fixed_point.proofs.Flags.{reading-by}
 use borrow.Author.Needs.{needs}
 use Rattle.fixed_point.proofs.reading_refusal.Statement.{statement}
 use Rattle.fixed_point.proofs.reading_refusal.Tie as tie
-use Rattle.fixed_point.proofs.reading_refusal.Reads as reads
-use Rattle.fixed_point.proofs.reading_refusal.Lts as lts
-use Rattle.fixed_point.proofs.outside.Reads as outside-reads
-use Rattle.fixed_point.proofs.some_not_finite.Reads as some-not-finite-reads
 
 -- what the tests before say, each at the place after it
 all-finite : (c : tie.Else1) → (let r = c .before .before .args .r in not (finite (r .l)) || not (finite (r .a)) || not (finite (r .b))) ≡ false
@@ -27,36 +24,29 @@ a-inside c = sym (c .before .outside2 .ensures) ∙ c .if3 .left
 some-not-finite-requires : tie.Need-some-not-finite-requires
 some-not-finite-requires c κs = search needs
 
--- src/lib.rt:85:9
 returns : tie.Need-returns
 unfolding ofBits neg
 returns c = sym (reading-by (c .before .before .args .r) (sym (c .before .some-not-finite .ensures) ∙ c .if1 .taken) refl refl refl)
 
--- src/lib.rt:87:8
 outside-requires : tie.Need-outside-requires
 outside-requires c κs = search needs
 
--- src/lib.rt:88:9
 returns-2 : tie.Need-returns-2
 unfolding ofBits neg
 returns-2 c = sym (reading-by (c .before .before .before .before .args .r) (all-finite (c .before .before)) (sym (c .before .outside .ensures) ∙ c .if2 .taken) refl refl)
 
--- src/lib.rt:90:8
 outside-requires-2 : tie.Need-outside-requires-2
 outside-requires-2 c κs = search needs
 
--- src/lib.rt:91:9
 returns-3 : tie.Need-returns-3
 unfolding ofBits neg
 returns-3 c =
     let e = c .before .before in
     sym (reading-by (e .before .before .before .before .args .r) (all-finite (e .before .before)) (l-inside e) (sym (c .before .outside2 .ensures) ∙ c .if3 .taken) refl)
 
--- src/lib.rt:93:8
 outside-requires-3 : tie.Need-outside-requires-3
 outside-requires-3 c κs = search needs
 
--- src/lib.rt:94:9
 returns-4 : tie.Need-returns-4
 unfolding ofBits neg
 returns-4 c =
@@ -64,7 +54,6 @@ returns-4 c =
     let d = e .before .before in
     sym (reading-by (d .before .before .before .before .args .r) (all-finite (d .before .before)) (l-inside d) (a-inside e) (sym (c .before .outside3 .ensures) ∙ c .if4 .taken))
 
--- src/lib.rt:81:1
 returns-5 : tie.Need-returns-5
 unfolding ofBits neg
 returns-5 c =

@@ -1,41 +1,32 @@
+-- `fixed_point::weights_refusal` meets its contract. Assumes nothing.
 use lib.Ieee.{ofBits}
 use mathlib.Core.Path.{refl, sym, _∙_}
 use Rattle.fixed_point.proofs.Flags.{weights-by}
 use borrow.Author.Needs.{needs}
 use Rattle.fixed_point.proofs.weights_refusal.Statement.{statement}
 use Rattle.fixed_point.proofs.weights_refusal.Tie as tie
-use Rattle.fixed_point.proofs.weights_refusal.Reads as reads
-use Rattle.fixed_point.proofs.weights_refusal.Lts as lts
-use Rattle.fixed_point.proofs.outside.Reads as outside-reads
 
--- src/lib.rt:97:8
 outside-requires : tie.Need-outside-requires
 outside-requires c κs = search needs
 
--- src/lib.rt:98:9
 returns : tie.Need-returns
 unfolding ofBits
 returns c = sym (weights-by (c .before .before .args .w) (sym (c .before .outside .ensures) ∙ c .if1 .taken) refl refl)
 
--- src/lib.rt:100:8
 outside-requires-2 : tie.Need-outside-requires-2
 outside-requires-2 c κs = search needs
 
--- src/lib.rt:101:9
 returns-2 : tie.Need-returns-2
 unfolding ofBits
 returns-2 c = sym (weights-by (c .before .before .before .before .args .w) (sym (c .before .before .before .outside .ensures) ∙ c .before .before .if1 .left) (sym (c .before .outside2 .ensures) ∙ c .if2 .taken) refl)
 
--- src/lib.rt:103:8
 outside-requires-3 : tie.Need-outside-requires-3
 outside-requires-3 c κs = search needs
 
--- src/lib.rt:104:9
 returns-3 : tie.Need-returns-3
 unfolding ofBits
 returns-3 c = sym (weights-by (c .before .before .before .before .before .before .args .w) (sym (c .before .before .before .before .before .outside .ensures) ∙ c .before .before .before .before .if1 .left) (sym (c .before .before .before .outside2 .ensures) ∙ c .before .before .if2 .left) (sym (c .before .outside3 .ensures) ∙ c .if3 .taken))
 
--- src/lib.rt:94:1
 returns-4 : tie.Need-returns-4
 unfolding ofBits
 returns-4 c = sym (weights-by (c .before .before .before .before .before .before .args .w) (sym (c .before .before .before .before .before .outside .ensures) ∙ c .before .before .before .before .if1 .left) (sym (c .before .before .before .outside2 .ensures) ∙ c .before .before .if2 .left) (sym (c .before .outside3 .ensures) ∙ c .if3 .left))

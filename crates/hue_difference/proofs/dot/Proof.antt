@@ -1,3 +1,4 @@
+-- `hue_difference::dot` meets its contract. Assumes nothing.
 use mathlib.Core.Path.{ap₂, _∙_}
 use native.Mathlib.Omega.{arith}
 use borrow.Author.Needs.{needs}

@@ -1,3 +1,4 @@
+-- `hue_difference::is_minus` meets its contract. Assumes nothing.
 use Rattle.hue_difference.proofs.is_minus.Statement.{statement}
 use Rattle.hue_difference.proofs.is_minus.Tie as tie
 

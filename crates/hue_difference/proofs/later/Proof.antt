@@ -1,3 +1,4 @@
+-- `hue_difference::later` meets its contract. Assumes nothing.
 use mathlib.Core.Path.{refl}
 use Rattle.hue_difference.specs.HueDifference.{laterIn}
 use Rattle.hue_difference.proofs.later.Statement.{statement}

@@ -1,3 +1,4 @@
+-- `hue_difference::mean_hue` meets its contract. Assumes nothing.
 use borrow.Author.Needs.{needs}
 use borrow.Author.Tests.{lt-ltb, le-ltb}
 use Rattle.hue_difference.specs.HueDifference.{meanHueOf}

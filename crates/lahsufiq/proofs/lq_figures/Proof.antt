@@ -1,27 +1,20 @@
+-- `lahsufiq::lq_figures` meets its contract. Assumes nothing.
 use mathlib.Core.Path.{sym, ap, _∙_, subst}
 use Rattle.lahsufiq.specs.Interface.{figureRow, Signable}
 use Rattle.lahsufiq.proofs.Figures.{signable}
 use borrow.Author.Needs.{needs}
 use Rattle.lahsufiq.proofs.lq_figures.Statement.{statement}
 use Rattle.lahsufiq.proofs.lq_figures.Tie as tie
-use Rattle.lahsufiq.proofs.lq_figures.Reads as reads
-use Rattle.lahsufiq.proofs.lq_figures.Lts as lts
-use Rattle.lahsufiq.proofs.row.Reads as row-reads
-use Rattle.measure.proofs.figures.Reads as figures-reads
 
--- src/lib.rt:240:9
 figures-requires : tie.Need-figures-requires
 figures-requires c κs = search needs
 
--- src/lib.rt:242:16
 row-requires : tie.Need-row-requires
 row-requires c κs = subst Signable (sym (c .before .figures .ensures .1)) (signable _ _ _)
 
--- src/lib.rt:243:5
 cast-result : tie.Need-cast-result
 cast-result c = search needs
 
--- src/lib.rt:209:1
 returns : tie.Need-returns
 returns c = (c .before .before .before .figures .ensures .0, c .before .row .ensures ∙ ap figureRow (c .before .before .before .figures .ensures .1))
 

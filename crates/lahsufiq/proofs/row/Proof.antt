@@ -1,3 +1,4 @@
+-- `lahsufiq::row` meets its contract. Assumes nothing.
 use mathlib.Core.List.{[], _∷_}
 use mir.Syntax.{w64}
 use mir.ValLaws.{toZ-pos, toZ-ofZ}
@@ -6,70 +7,52 @@ use borrow.Author.Needs.{sfits-of}
 use borrow.Author.Needs.{needs}
 use Rattle.lahsufiq.proofs.row.Statement.{statement}
 use Rattle.lahsufiq.proofs.row.Tie as tie
-use Rattle.lahsufiq.proofs.row.Reads as reads
-use Rattle.lahsufiq.proofs.row.Lts as lts
 
--- src/lib.rt:183:9
 cast-t2 : tie.Need-cast-t2
 cast-t2 c = search needs
 
--- src/lib.rt:186:9
 cast-t3 : tie.Need-cast-t3
 cast-t3 c = search needs
 
--- src/lib.rt:187:9
 cast-t4 : tie.Need-cast-t4
 cast-t4 c = search needs
 
--- src/lib.rt:188:9
 cast-t5 : tie.Need-cast-t5
 cast-t5 c = search needs
 
--- src/lib.rt:191:9
 cast-t6 : tie.Need-cast-t6
 cast-t6 c = search needs
 
--- src/lib.rt:192:9
 cast-t7 : tie.Need-cast-t7
 cast-t7 c = search needs
 
--- src/lib.rt:193:9
 cast-t8 : tie.Need-cast-t8
 cast-t8 c = search needs
 
--- src/lib.rt:194:9
 cast-t9 : tie.Need-cast-t9
 cast-t9 c = search needs
 
--- src/lib.rt:196:9
 cast-t10 : tie.Need-cast-t10
 cast-t10 c = search needs
 
--- src/lib.rt:197:9
 cast-t11 : tie.Need-cast-t11
 cast-t11 c = search needs
 
--- src/lib.rt:198:9
 cast-t12 : tie.Need-cast-t12
 cast-t12 c = search needs
 
--- src/lib.rt:199:9
 cast-t13 : tie.Need-cast-t13
 cast-t13 c = sfits-of (c .before .before .before .before .before .before .before .before .before .before .before .before .pre .sc)
 
--- src/lib.rt:200:9
 cast-t14 : tie.Need-cast-t14
 cast-t14 c = sfits-of (c .before .before .before .before .before .before .before .before .before .before .before .before .before .pre .sh)
 
--- src/lib.rt:201:9
 cast-t15 : tie.Need-cast-t15
 cast-t15 c = sfits-of (c .before .before .before .before .before .before .before .before .before .before .before .before .before .before .pre .r)
 
--- src/lib.rt:205:9
 cast-t16 : tie.Need-cast-t16
 cast-t16 c = sfits-of (c .before .before .before .before .before .before .before .before .before .before .before .before .before .before .before .pre .difference)
 
--- src/lib.rt:178:1
 returns : tie.Need-returns
 unfolding figureRow
 returns c =

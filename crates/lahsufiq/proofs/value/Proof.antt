@@ -1,25 +1,20 @@
+-- `lahsufiq::value` meets its contract. Assumes nothing.
 use mathlib.Core.Path.{sym, ap}
 use Rattle.measure.specs.Answers.{differenceOf}
 use lib.Ieee.{ofBits}
 use borrow.Author.Needs.{needs}
 use Rattle.lahsufiq.proofs.value.Statement.{statement}
 use Rattle.lahsufiq.proofs.value.Tie as tie
-use Rattle.lahsufiq.proofs.value.Reads as reads
-use Rattle.lahsufiq.proofs.value.Lts as lts
 
--- src/lib.rt:28:24
 enum-known-d : tie.Need-enum-known-d
 enum-known-d c = search needs
 
--- src/lib.rt:29:35
 enum-told : tie.Need-enum-told
 enum-told c = search needs
 
--- src/lib.rt:24:1
 returns : tie.Need-returns
 returns c = search needs
 
--- src/lib.rt:24:1
 returns-2 : tie.Need-returns-2
 unfolding ofBits
 returns-2 c = sym (ap differenceOf (c .enum-told .given .1))

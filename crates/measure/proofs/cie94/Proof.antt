@@ -1,4 +1,5 @@
-use mathlib.Core.Path.{_≡_, refl, sym, ap, _∙_, subst}
+-- `measure::cie94` meets its contract. Assumes nothing.
+use mathlib.Core.Path.{sym, ap, _∙_, subst}
 use Rattle.fixed_point.specs.Samples.{WeightsIn}
 use Rattle.fixed_point.proofs.FixedLaws.{weights-in}
 use Rattle.difference.specs.Differences.{cie94Of}
@@ -8,48 +9,33 @@ use Rattle.measure.proofs.Refusing.{refused, given, Unrefused, weighted
 use borrow.Author.Needs.{needs}
 use Rattle.measure.proofs.cie94.Statement.{statement}
 use Rattle.measure.proofs.cie94.Tie as tie
-use Rattle.measure.proofs.cie94.Reads as reads
-use Rattle.measure.proofs.cie94.Lts as lts
-use Rattle.difference.proofs.cie94.Reads as cie94-reads
-use Rattle.fixed_point.proofs.fixed_weights.Reads as fixed-weights-reads
-use Rattle.measure.proofs.double.Reads as double-reads
-use Rattle.measure.proofs.prepared.Reads as prepared-reads
-use Rattle.measure.proofs.weighted_refusal.Reads as weighted-refusal-reads
 
--- src/lib.rt:122:9
 weighted-refusal-requires : tie.Need-weighted-refusal-requires
 weighted-refusal-requires c κs = search needs
 
--- src/lib.rt:124:9
 returns : tie.Need-returns
 returns c =
     let e = c .before .weighted-refusal .ensures in
     ap Refused e ∙ refused _ _ (λ z. c .if1 .taken (e ∙ z))
 
--- src/lib.rt:126:9
 none : (c : tie.Else1) → Unrefused (c .before .before .args .standard) (c .before .before .args .sample) (c .before .before .args .weights)
 none c = weighted-none _ _ _ (sym (c .before .weighted-refusal .ensures) ∙ c .if1 .left)
 
 fixed-weights-requires : tie.Need-fixed-weights-requires
 fixed-weights-requires c κs = none c .weights
 
--- src/lib.rt:127:9
 prepared-requires : tie.Need-prepared-requires
 prepared-requires c κs = none (c .before) .first
 
--- src/lib.rt:128:9
 prepared-requires-2 : tie.Need-prepared-requires-2
 prepared-requires-2 c κs = none (c .before .before) .second
 
--- src/lib.rt:129:27
 cie94-requires : tie.Need-cie94-requires
 cie94-requires c κs = (subst WeightsIn (sym (c .before .before .fixed-weights .ensures)) (weights-in _ (none (c .before .before .before) .weights)), (c .before .prepared .ensures .ready, c .prepared2 .ensures .ready))
 
--- src/lib.rt:129:20
 double-requires : tie.Need-double-requires
 double-requires c κs = search needs
 
--- src/lib.rt:119:1
 returns-2 : tie.Need-returns-2
 returns-2 c =
     given _ _ (sym (c .before .before .before .before .before .before .weighted-refusal .ensures) ∙ c .before .before .before .before .before .if1 .left)

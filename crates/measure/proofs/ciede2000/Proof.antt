@@ -1,35 +1,26 @@
-use mathlib.Core.Path.{_≡_, refl, sym, ap, _∙_, subst}
+-- `measure::ciede2000` meets its contract. Assumes nothing.
+use mathlib.Core.Path.{sym, ap, _∙_}
 use Rattle.measure.specs.Answers.{doubleOf}
 use Rattle.measure.specs.declared.Difference.the-variants.{Refused}
 use Rattle.measure.proofs.Refusing.{refused, given, with-laws}
 use borrow.Author.Needs.{needs}
 use Rattle.measure.proofs.ciede2000.Statement.{statement}
 use Rattle.measure.proofs.ciede2000.Tie as tie
-use Rattle.measure.proofs.ciede2000.Reads as reads
-use Rattle.measure.proofs.ciede2000.Lts as lts
-use Rattle.measure.proofs.double.Reads as double-reads
-use Rattle.measure.proofs.millionths.Reads as millionths-reads
-use Rattle.measure.proofs.weighted_refusal.Reads as weighted-refusal-reads
 
--- src/lib.rt:148:9
 weighted-refusal-requires : tie.Need-weighted-refusal-requires
 weighted-refusal-requires c κs = search needs
 
--- src/lib.rt:150:9
 returns : tie.Need-returns
 returns c =
     let e = c .before .weighted-refusal .ensures in
     with-laws _ _ _ (ap Refused e ∙ refused _ _ (λ z. c .if1 .taken (e ∙ z)))
 
--- src/lib.rt:152:27
 millionths-requires : tie.Need-millionths-requires
 millionths-requires c κs = search needs
 
--- src/lib.rt:152:20
 double-requires : tie.Need-double-requires
 double-requires c κs = search needs
 
--- src/lib.rt:145:1
 returns-2 : tie.Need-returns-2
 returns-2 c = with-laws _ _ _ (given _ _ (sym (c .before .before .before .weighted-refusal .ensures) ∙ c .before .before .if1 .left) (c .double .ensures ∙ ap doubleOf (c .before .millionths .ensures .is)))
 

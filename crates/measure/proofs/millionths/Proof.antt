@@ -1,4 +1,5 @@
-use mathlib.Core.Path.{_≡_, refl, sym, ap, _∙_, subst}
+-- `measure::millionths` meets its contract. Assumes nothing.
+use mathlib.Core.Path.{sym, _∙_, subst}
 use Rattle.fixed_point.specs.Samples.{WeightsIn}
 use Rattle.fixed_point.proofs.FixedLaws.{weights-in}
 use Rattle.difference.specs.Differences.{ciede2000Of}
@@ -6,42 +7,28 @@ use Rattle.measure.proofs.Refusing.{weighted-none}
 use borrow.Author.Needs.{needs}
 use Rattle.measure.proofs.millionths.Statement.{statement}
 use Rattle.measure.proofs.millionths.Tie as tie
-use Rattle.measure.proofs.millionths.Reads as reads
-use Rattle.measure.proofs.millionths.Lts as lts
-use Rattle.difference.proofs.ciede2000.Reads as ciede2000-reads
-use Rattle.fixed_point.proofs.fixed_weights.Reads as fixed-weights-reads
-use Rattle.gaussian.proofs.gaussian_table.Reads as gaussian-table-reads
-use Rattle.measure.proofs.prepared.Reads as prepared-reads
-use Rattle.sine.proofs.sine_table.Reads as sine-table-reads
 
--- src/lib.rt:137:9
 fixed-weights-requires : tie.Need-fixed-weights-requires
 fixed-weights-requires c κs = weighted-none _ _ _ (c .pre) .weights
 
--- src/lib.rt:138:9
 prepared-requires : tie.Need-prepared-requires
 prepared-requires c κs = weighted-none _ _ _ (c .before .pre) .first
 
--- src/lib.rt:139:9
 prepared-requires-2 : tie.Need-prepared-requires-2
 prepared-requires-2 c κs = weighted-none _ _ _ (c .before .before .pre) .second
 
--- src/lib.rt:140:17
 sine-table-requires : tie.Need-sine-table-requires
 sine-table-requires c κs = search needs
 
--- src/lib.rt:141:21
 gaussian-table-requires : tie.Need-gaussian-table-requires
 gaussian-table-requires c κs = search needs
 
--- src/lib.rt:142:5
 ciede2000-requires : tie.Need-ciede2000-requires
 ciede2000-requires c κs = (
   (c .before .before .before .sine-table .ensures, c .before .before .gaussian-table .ensures),
   (subst WeightsIn (sym (c .before .before .before .before .before .before .fixed-weights .ensures)) (weights-in _ (weighted-none _ _ _ (c .before .before .before .before .before .before .before .pre) .weights)), (c .before .before .before .before .before .prepared .ensures .ready, c .before .before .before .before .prepared2 .ensures .ready)),
 )
 
--- src/lib.rt:133:1
 returns : tie.Need-returns
 returns c =
     record {

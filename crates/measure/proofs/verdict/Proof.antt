@@ -1,4 +1,5 @@
-use mathlib.Core.Path.{_≡_, refl, sym, ap, _∙_, subst}
+-- `measure::verdict` meets its contract. Assumes nothing.
+use mathlib.Core.Path.{_≡_, sym, ap, _∙_, subst}
 use Prim.Native.Nat.{ℕ, _≤_}
 use Rattle.fixed_point.specs.Refusals.{toleranceRefusal}
 use Rattle.fixed_point.proofs.FixedLaws.{tolerance-le}
@@ -10,44 +11,30 @@ use Rattle.measure.proofs.Refusing.{refused, given, refused-no, given-y
 use borrow.Author.Needs.{needs}
 use Rattle.measure.proofs.verdict.Statement.{statement}
 use Rattle.measure.proofs.verdict.Tie as tie
-use Rattle.measure.proofs.verdict.Reads as reads
-use Rattle.measure.proofs.verdict.Lts as lts
-use Rattle.difference.proofs.within_tolerance.Reads as within-tolerance-reads
-use Rattle.fixed_point.proofs.fixed_tolerance.Reads as fixed-tolerance-reads
-use Rattle.measure.proofs.double.Reads as double-reads
-use Rattle.measure.proofs.millionths.Reads as millionths-reads
-use Rattle.measure.proofs.verdict_refusal.Reads as verdict-refusal-reads
 
--- src/lib.rt:148:9
 verdict-refusal-requires : tie.Need-verdict-refusal-requires
 verdict-refusal-requires c κs = search needs
 
--- src/lib.rt:150:9
 returns : tie.Need-returns
 returns c =
     let e = c .before .verdict-refusal .ensures in
     record { difference = ap Refused e ∙ refused _ _ (λ z. c .if1 .taken (e ∙ z)); within = refused-no _ _ (λ z. c .if1 .taken (e ∙ z)) }
 
--- src/lib.rt:155:9
 none : (c : tie.Else1) → (weightedRefusal (c .before .before .args .standard) (c .before .before .args .sample) (c .before .before .args .weights) ≡ 0) × (toleranceRefusal (c .before .before .args .tolerance) ≡ 0)
 none c = verdict-none _ _ _ _ (sym (c .before .verdict-refusal .ensures) ∙ c .if1 .left)
 
 millionths-requires : tie.Need-millionths-requires
 millionths-requires c κs = none c .0
 
--- src/lib.rt:157:36
 double-requires : tie.Need-double-requires
 double-requires c κs = search needs
 
--- src/lib.rt:158:49
 fixed-tolerance-requires : tie.Need-fixed-tolerance-requires
 fixed-tolerance-requires c κs = none (c .before .before) .1
 
--- src/lib.rt:158:17
 within-tolerance-requires : tie.Need-within-tolerance-requires
 within-tolerance-requires c κs = subst (λ (n : ℕ). n ≤ 1000000) (sym (c .fixed-tolerance .ensures)) (tolerance-le _ (none (c .before .before .before) .1))
 
--- src/lib.rt:145:1
 returns-2 : tie.Need-returns-2
 returns-2 c =
     let e = sym (c .before .before .before .before .before .verdict-refusal .ensures) ∙ c .before .before .before .before .if1 .left in

@@ -1,3 +1,4 @@
+-- `pairs::answer` meets its contract.
 use mathlib.Core.Bool.{false≢true}
 use mathlib.Core.List.{List}
 use mathlib.Core.Path.{_≡_, refl, sym, ap, _∙_}

@@ -1,3 +1,4 @@
+-- `pairs::answer_all` meets its contract.
 use mathlib.Core.Path.{_≡_}
 use Prim.Native.Nat.{_-_}
 use lib.ListN.{length}

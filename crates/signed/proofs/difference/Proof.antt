@@ -1,3 +1,4 @@
+-- `signed::difference` meets its contract. Assumes nothing.
 use native.Mathlib.Omega.{arith}
 use borrow.Author.Needs.{needs}
 use Rattle.signed.proofs.difference.Statement.{statement}

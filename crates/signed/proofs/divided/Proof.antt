@@ -1,3 +1,4 @@
+-- `signed::divided` meets its contract. Assumes nothing.
 use borrow.Author.Needs.{needs}
 use Rattle.signed.proofs.Results.{divided-is}
 use Rattle.signed.proofs.divided.Statement.{statement}

@@ -1,3 +1,4 @@
+-- `signed::is_negative` meets its contract. Assumes nothing.
 use Rattle.signed.proofs.Results.{negative-true, negative-false}
 use Rattle.signed.proofs.is_negative.Statement.{statement}
 use Rattle.signed.proofs.is_negative.Tie as tie

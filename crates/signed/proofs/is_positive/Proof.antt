@@ -1,3 +1,4 @@
+-- `signed::is_positive` meets its contract. Assumes nothing.
 use Rattle.signed.proofs.Results.{positive-true, positive-false}
 use Rattle.signed.proofs.is_positive.Statement.{statement}
 use Rattle.signed.proofs.is_positive.Tie as tie

@@ -1,3 +1,4 @@
+-- `signed::is_zero` meets its contract. Assumes nothing.
 use Rattle.signed.proofs.SignedLaws.{int-size}
 use Rattle.signed.proofs.is_zero.Statement.{statement}
 use Rattle.signed.proofs.is_zero.Tie as tie

@@ -1,3 +1,4 @@
+-- `signed::natural` meets its contract. Assumes nothing.
 use mathlib.Core.Path.{refl}
 use Rattle.signed.specs.Value.{int}
 use Rattle.signed.proofs.natural.Statement.{statement}

@@ -1,3 +1,4 @@
+-- `signed::natural_difference` meets its contract. Assumes nothing.
 use borrow.Author.Needs.{needs}
 use Rattle.signed.proofs.Results.{apart-down, apart-up}
 use Rattle.signed.proofs.natural_difference.Statement.{statement}

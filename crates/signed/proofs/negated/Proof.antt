@@ -1,3 +1,4 @@
+-- `signed::negated` meets its contract. Assumes nothing.
 use Rattle.signed.proofs.Results.{negated-is}
 use Rattle.signed.proofs.negated.Statement.{statement}
 use Rattle.signed.proofs.negated.Tie as tie

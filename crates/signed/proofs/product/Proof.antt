@@ -1,3 +1,4 @@
+-- `signed::product` meets its contract. Assumes nothing.
 use borrow.Author.Needs.{needs}
 use Rattle.signed.proofs.Results.{product-is}
 use Rattle.signed.proofs.product.Statement.{statement}

@@ -1,3 +1,4 @@
+-- `signed::quotient` meets its contract. Assumes nothing.
 use borrow.Author.Needs.{needs}
 use Rattle.signed.proofs.Results.{quotient-is}
 use Rattle.signed.proofs.quotient.Statement.{statement}

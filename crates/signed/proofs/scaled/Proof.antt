@@ -1,3 +1,4 @@
+-- `signed::scaled` meets its contract. Assumes nothing.
 use borrow.Author.Needs.{needs}
 use Rattle.signed.proofs.Results.{scaled-is}
 use Rattle.signed.proofs.scaled.Statement.{statement}

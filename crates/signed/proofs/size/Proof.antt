@@ -1,3 +1,4 @@
+-- `signed::size` meets its contract. Assumes nothing.
 use mathlib.Core.Path.{refl, sym}
 use Rattle.signed.proofs.SignedLaws.{int-size}
 use Rattle.signed.proofs.size.Statement.{statement}

@@ -1,3 +1,4 @@
+-- `signed::to_i64` meets its contract. Assumes nothing.
 use Rattle.signed.proofs.Border.{minus-fits, minus-is, plus-is}
 use borrow.Author.Needs.{needs}
 use Rattle.signed.proofs.to_i64.Statement.{statement}

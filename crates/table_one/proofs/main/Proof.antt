@@ -1,3 +1,4 @@
+-- `table_one::main` meets its contract.
 use mathlib.Core.Path.{_≡_, refl}
 use Prim.Native.Nat.{_-_, _*_, _≤_}
 use native.Mathlib.Omega.{arith}
@@ -5,11 +6,6 @@ use lib.ListN.{length}
 use borrow.Author.Needs.{needs}
 use Rattle.table_one.proofs.main.Statement.{statement}
 use Rattle.table_one.proofs.main.Tie as tie
-use Rattle.table_one.proofs.main.Reads as reads
-use Rattle.table_one.proofs.main.Lts as lts
-use Rattle.io.proofs.print_decimal.Reads as print-decimal-reads
-use Rattle.io.proofs.write_all.Reads as write-all-reads
-use Rattle.table_one.proofs.pair.Reads as pair-reads
 
 abbrev Inv-loop : tie.InvT-loop
 Inv-loop pairs published within₀ k₀ t5 within k = (k ≤ 34) × (within ≤ 2 * k) × (length pairs ≡ 204) × (length published ≡ 34) × (length t5 ≡ 45)
@@ -17,51 +13,39 @@ Inv-loop pairs published within₀ k₀ t5 within k = (k ≤ 34) × (within ≤ 
 abbrev μ-loop : tie.MeasureT-loop
 μ-loop pairs published within₀ k₀ t5 within k = 34 - k
 
--- src/main.rt:336:5
 loop-holds : tie.Need-loop-holds Inv-loop μ-loop
 loop-holds c = (omega arith, omega arith, refl, refl, refl)
 
--- src/main.rt:337:35
 mul-pair : tie.Need-mul-pair Inv-loop μ-loop
 mul-pair c = omega arith
 
--- src/main.rt:337:35
 array-read-pair : tie.Need-array-read-pair Inv-loop μ-loop
 array-read-pair c = omega arith
 
--- src/main.rt:337:19
 pair-requires : tie.Need-pair-requires Inv-loop μ-loop
 pair-requires c κs = search needs
 
--- src/main.rt:337:9
 add-within : tie.Need-add-within Inv-loop μ-loop
 add-within c = omega arith
 
--- src/main.rt:338:9
 add-k : tie.Need-add-k Inv-loop μ-loop
 add-k c = omega arith
 
--- src/main.rt:336:5
 loop-less : tie.Need-loop-less Inv-loop μ-loop
 loop-less c = omega arith
 
--- src/main.rt:336:5
 loop-again : tie.Need-loop-again Inv-loop μ-loop
 loop-again c = search needs
 
--- src/main.rt:340:5
 print-decimal-requires : tie.Need-print-decimal-requires Inv-loop μ-loop
 print-decimal-requires c κs = search needs
 
--- src/main.rt:341:22
 slice-aggregate-write-all : tie.Need-slice-aggregate-write-all Inv-loop μ-loop
 slice-aggregate-write-all c = search needs
 
--- src/main.rt:341:5
 write-all-requires : tie.Need-write-all-requires Inv-loop μ-loop
 write-all-requires c κs = search needs
 
--- src/main.rt:331:1
 returns : tie.Need-returns Inv-loop μ-loop
 returns c = search needs
 

@@ -1,3 +1,4 @@
+-- The proof of the cycle of calls {put_digits}. The measure is n.
 use Prim.Native.Nat.{ℕ, _<_}
 use native.Mathlib.Omega.{arith}
 use borrow.Author.Needs.{needs}

@@ -1,3 +1,4 @@
+-- The proof of the cycle of calls {put_last_digits}. The measure is the count.
 use Prim.Native.Nat.{ℕ, _<_}
 use borrow.Author.Needs.{needs}
 use borrow.Fn.Kinds.{In}

@@ -1,3 +1,4 @@
+-- `text::accepted` meets its contract. Assumes nothing.
 use mathlib.Core.Path.{_≡_, sym, subst}
 use borrow.Author.Needs.{needs}
 use Rattle.fixed_point.specs.Samples.{SampleIn, labOf}

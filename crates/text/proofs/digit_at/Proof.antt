@@ -1,3 +1,4 @@
+-- `text::digit_at` meets its contract. Assumes nothing.
 use borrow.Author.Needs.{needs}
 use Rattle.text.proofs.Reading.{digit-in, digit-low, digit-high, digit-out}
 use Rattle.text.proofs.digit_at.Statement.{statement}

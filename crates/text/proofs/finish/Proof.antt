@@ -1,3 +1,4 @@
+-- `text::finish` meets its contract. Assumes nothing.
 use mathlib.Core.Path.{_≡_, sym}
 use lib.ListN.{length}
 use lib.Dec.{lit≤}

@@ -1,3 +1,4 @@
+-- `text::header` meets its contract. Assumes nothing.
 use mathlib.Core.Path.{refl}
 use Rattle.text.specs.Stream.{endedFrom, textSoFar}
 use Rattle.text.specs.Text.{answersOf}

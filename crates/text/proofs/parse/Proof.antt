@@ -1,3 +1,4 @@
+-- `text::parse` meets its contract. Assumes nothing.
 use mathlib.Core.Path.{_≡_, sym, ap, _∙_}
 use native.Mathlib.Omega.{arith}
 use lib.ListN.{drop, length-drop, drop-of-length-le}

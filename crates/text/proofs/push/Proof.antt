@@ -1,3 +1,4 @@
+-- `text::push` meets its contract. Assumes nothing.
 use borrow.Author.Needs.{needs}
 use Rattle.text.proofs.Holding.{push-room, push-full}
 use Rattle.text.proofs.push.Statement.{statement}

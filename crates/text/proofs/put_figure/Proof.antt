@@ -1,3 +1,4 @@
+-- `text::put_figure` meets its contract. Assumes nothing.
 use borrow.Author.Needs.{needs}
 use Rattle.signed.proofs.SignedLaws.{int-size}
 use Rattle.text.proofs.Writing.{figure-written}

@@ -1,28 +1,21 @@
+-- `text::put_minus` meets its contract. Assumes nothing.
 use Rattle.text.proofs.Writing.{written-is, written-none, minus-zero, minus-negative, minus-positive}
 use borrow.Author.Needs.{needs}
 use Rattle.text.proofs.put_minus.Statement.{statement}
 use Rattle.text.proofs.put_minus.Tie as tie
-use Rattle.text.proofs.put_minus.Reads as reads
-use Rattle.text.proofs.put_minus.Lts as lts
-use Rattle.text.proofs.put_byte.Reads as put-byte-reads
 
--- src/lib.rt:262:9
 returns : tie.Need-returns
 returns c = written-is (minus-zero _ (c .if1 .taken)) (written-none _ _ 1)
 
--- src/lib.rt:265:9
 put-byte-requires : tie.Need-put-byte-requires
 put-byte-requires c κs = search needs
 
--- src/lib.rt:265:9
 same-length : tie.Need-same-length
 same-length c = search needs
 
--- src/lib.rt:265:9
 returns-2 : tie.Need-returns-2
 returns-2 c = written-is (minus-negative _ (c .before .before .before .before .before .if1 .left) (c .before .before .before .before .if2 .taken)) (c .before .before .put-byte .ensures)
 
--- src/lib.rt:256:1
 returns-3 : tie.Need-returns-3
 returns-3 c = written-is (minus-positive _ (c .if2 .left)) (written-none _ _ 1)
 

@@ -1,3 +1,4 @@
+-- `text::put_refused` meets its contract. Assumes nothing.
 use borrow.Author.Needs.{needs}
 use Rattle.text.specs.Figures.{refusedText}
 use Rattle.text.proofs.Writing.{written-append}

@@ -1,3 +1,4 @@
+-- `text::put_six` meets its contract. Assumes nothing.
 use borrow.Author.Needs.{needs}
 use Rattle.text.proofs.Writing.{line-last, line-before}
 use Rattle.text.proofs.put_six.Statement.{statement}

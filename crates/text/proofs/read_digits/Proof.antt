@@ -1,3 +1,4 @@
+-- `text::read_digits` meets its contract. Assumes nothing.
 use mathlib.Core.Path.{ap, _≡_, sym, _∙_}
 use Prim.Native.Nat.{ℕ, _-_, _^_, _≤_, _<_}
 use native.Mathlib.Nat.{sub-zero}

@@ -1,3 +1,4 @@
+-- `text::read_fraction` meets its contract. Assumes nothing.
 use mathlib.Core.Path.{subst, sym, ap, _∙_}
 use Prim.Native.Nat.{ℕ, _<_, _*_, _^_, _-_, _≤_}
 use native.Mathlib.Nat.{pow-le-pow-right, mul-le-mul}

@@ -1,3 +1,4 @@
+-- `text::start` meets its contract. Assumes nothing.
 use mathlib.Core.Path.{refl}
 use Rattle.text.specs.Carried.{heldIn}
 use Rattle.text.specs.Stream.{lastFrom, heldOf, stateOf}

@@ -1,3 +1,4 @@
+-- `text::starts` meets its contract. Assumes nothing.
 use borrow.Author.Needs.{needs}
 use Rattle.text.proofs.Reading.{starts-in, starts-out}
 use Rattle.text.proofs.starts.Statement.{statement}

@@ -1,3 +1,4 @@
+-- `text::step` meets its contract. Assumes nothing.
 use borrow.Author.Needs.{needs}
 use Rattle.text.proofs.Whole.{follows}
 use Rattle.text.proofs.step.Statement.{statement}

@@ -1,3 +1,4 @@
+-- `text::step_with` meets its contract. Assumes nothing.
 use mathlib.Core.Logic.{⊎-elim}
 use mathlib.Core.Path.{refl, sym}
 use Prim.Native.Nat.{_+_, _-_, _≤_}

@@ -1,3 +1,4 @@
+-- `text::values_refusal` meets its contract. Assumes nothing.
 use borrow.Author.Needs.{needs}
 use Rattle.text.proofs.Answering.{lightness-negative, lightness-over, red-green-over, yellow-blue-over, values-accepted}
 use Rattle.text.proofs.values_refusal.Statement.{statement}

@@ -1,3 +1,4 @@
+-- `text::with_sign` meets its contract. Assumes nothing.
 use borrow.Author.Needs.{needs}
 use Rattle.signed.specs.Value.{int}
 use Rattle.text.specs.Line.{signedFound}

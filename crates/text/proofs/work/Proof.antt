@@ -1,3 +1,4 @@
+-- `text::work` meets its contract. Assumes nothing.
 use mathlib.Core.Path.{refl}
 use borrow.Author.Needs.{needs}
 use Rattle.difference.specs.Carried.{partedOf, workedFigures}
