@@ -295,6 +295,8 @@ pub extern "C" fn lq_search(
         → DemandThree (weightsOf (weights kl kc kh)) (sampleOf (reading rl ra rb)) (fixedSize tolerance) (columnsAt (now (l .entry)) (now (a .entry)) (now (b .entry)))
         (length (now (l .entry))) (countOf (searchAnswer (reading rl ra rb) (weights kl kc kh) tolerance (now (l .entry)) (now (a .entry)) (now (b .entry)) (length (now (places .entry)))))
         (now (places .entry)) (now (places .exit))) ⌝ }
+    ensures columns { λ _. ⌜ (now (l .exit) ≡ now (l .entry))
+        × ((now (a .exit) ≡ now (a .entry)) × (now (b .exit) ≡ now (b .entry))) ⌝ }
 {
     let r = Reading {
         l: rl,

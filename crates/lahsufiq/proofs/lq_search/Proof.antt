@@ -24,7 +24,7 @@ returns c =
       c .found-number .ensures ∙ ap numberOf (found .0),
       (
         c .before .found-count .ensures ∙ ap handedCount (found .0),
-        (found .1 .0, λ accepted room. rw (← (found .0)) (found .1 .1 .1 .1 .1 .0 accepted room)),
+        (found .1 .0, ((λ accepted room. rw (← (found .0)) (found .1 .1 .1 .1 .1 .0 accepted room)), found .1 .1 .1 .1 .1 .1)),
       ),
     )
 
