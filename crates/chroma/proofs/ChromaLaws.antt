@@ -12,9 +12,9 @@ use lib.Signed.{ltZ, quotZ}
 use Rattle.isqrt.specs.Root.{rootOf}
 use Rattle.isqrt.proofs.RootLaws.{root-below, root-largest, root-le, root-square-plus}
 use Rattle.signed.specs.declared.Int.{Int}
-use Rattle.signed.specs.Value.{int}
+use Rattle.signed.specs.Inner.{int}
 use Rattle.signed.proofs.SignedLaws.{int-size, natAbs-mul, natAbs-quot, neg-mul, neg-quot, lt-neg-pos, lt-pos-neg}
-use Rattle.chroma.specs.Chroma.{sumOfSquares, chromaOf, powerOf, hypotenuseOf, ratioOf, primedA, primedB, primedChroma}
+use Rattle.chroma.specs.Chroma.{sumOfSquares, chromaOf, powerOf, hypotenuseOf, ratioOf, primedA, inTenMillionths, primedChroma}
 
 -- ---- step 1
 
@@ -99,12 +99,12 @@ pub primed-a-ge : (a : ℤ) (z : ℕ) → z ≤ 1000000000 → 1000 * natAbs a �
 primed-a-ge a z h =
     let k : 2000000000 ≤ 3000000000 - z = omega arith in omega (arith, primed-a-size a z, mul-le-mul-left (natAbs a) k)
 
-pub primed-b-size : (b : ℤ) → natAbs (primedB b) ≡ natAbs b * 1000
-unfolding primedB
-primed-b-size b = natAbs-mul b (pos 1000)
+pub in-ten-millionths-size : (b : ℤ) → natAbs (inTenMillionths b) ≡ natAbs b * 1000
+unfolding inTenMillionths
+in-ten-millionths-size b = natAbs-mul b (pos 1000)
 
-pub primed-b-le : (b : ℤ) → natAbs b ≤ 1280000 → natAbs (primedB b) ≤ 1280000000
-primed-b-le b h = omega (arith, primed-b-size b)
+pub in-ten-millionths-le : (b : ℤ) → natAbs b ≤ 1280000 → natAbs (inTenMillionths b) ≤ 1280000000
+in-ten-millionths-le b h = omega (arith, in-ten-millionths-size b)
 
 pub primed-chroma-le : (a b : ℤ) → natAbs a ≤ 1920000000 → natAbs b ≤ 1280000000 → primedChroma a b ≤ 2307552816
 unfolding primedChroma
@@ -128,24 +128,25 @@ pub primed-a-neg : (a : ℤ) (z : ℕ) → primedA (negℤ a) z ≡ negℤ (prim
 unfolding primedA
 primed-a-neg a z = ap (λ x. quotZ x (pos 2000000)) (neg-mul a (pos (3000000000 - z))) ∙ neg-quot (a *ℤ pos (3000000000 - z)) (pos 2000000)
 
-pub primed-b-neg : (b : ℤ) → primedB (negℤ b) ≡ negℤ (primedB b)
-unfolding primedB
-primed-b-neg b = neg-mul b (pos 1000)
+pub in-ten-millionths-neg : (b : ℤ) → inTenMillionths (negℤ b) ≡ negℤ (inTenMillionths b)
+unfolding inTenMillionths
+in-ten-millionths-neg b = neg-mul b (pos 1000)
 
 pub primed-a-zero : (z : ℕ) → primedA (pos 0) z ≡ pos 0
 unfolding primedA
 primed-a-zero z = rw (zero-mul (3000000000 - z))
 
-pub primed-b-zero : primedB (pos 0) ≡ pos 0
-unfolding primedB
-primed-b-zero = refl
+pub in-ten-millionths-zero : inTenMillionths (pos 0) ≡ pos 0
+unfolding inTenMillionths
+in-ten-millionths-zero = refl
 
 record SignKept (f : ℤ → ℤ) : Type 0 where
   negative : (x : ℤ) → ltZ (f x) (pos 0) ≡ ltZ x (pos 0)
   positive : (x : ℤ) → ltZ (pos 0) (f x) ≡ ltZ (pos 0) x
 
 -- f is odd, is 0 at 0, keeps naturals natural and makes no size less
-module _ (f : ℤ → ℤ) (natural : (n : ℕ) → f (pos n) ≡ pos (natAbs (f (pos n)))) (odd : (x : ℤ) → f (negℤ x) ≡ negℤ (f x)) (at-zero : f (pos 0) ≡ pos 0) (size-ge : (x : ℤ) → natAbs x ≤ natAbs (f x)) where
+module _ (f : ℤ → ℤ) (natural : (n : ℕ) → f (pos n) ≡ pos (natAbs (f (pos n)))) (odd : (x : ℤ) → f (negℤ x) ≡ negℤ (f x))
+    (at-zero : f (pos 0) ≡ pos 0) (size-ge : (x : ℤ) → natAbs x ≤ natAbs (f x)) where
   abbrev size : ℕ → ℕ
   size n = natAbs (f (pos n))
 
@@ -172,9 +173,10 @@ primed-a-sign : (z : ℕ) → z ≤ 1000000000 → SignKept (λ a. primedA a z)
 unfolding primedA
 primed-a-sign z h = sign-kept (λ a. primedA a z) (λ n. refl) (λ a. primed-a-neg a z) (primed-a-zero z) (λ a. omega (arith, primed-a-ge a z h))
 
-primed-b-sign : SignKept primedB
-unfolding primedB
-primed-b-sign = sign-kept primedB (λ n. refl) primed-b-neg primed-b-zero (λ b. omega (arith, primed-b-size b))
+in-ten-millionths-sign : SignKept inTenMillionths
+unfolding inTenMillionths
+in-ten-millionths-sign = sign-kept inTenMillionths (λ n. refl) in-ten-millionths-neg in-ten-millionths-zero
+    (λ b. omega (arith, in-ten-millionths-size b))
 
 pub primed-a-negative : (a : ℤ) (z : ℕ) → z ≤ 1000000000 → ltZ (primedA a z) (pos 0) ≡ ltZ a (pos 0)
 primed-a-negative a z h = primed-a-sign z h .negative a
@@ -182,16 +184,18 @@ primed-a-negative a z h = primed-a-sign z h .negative a
 pub primed-a-positive : (a : ℤ) (z : ℕ) → z ≤ 1000000000 → ltZ (pos 0) (primedA a z) ≡ ltZ (pos 0) a
 primed-a-positive a z h = primed-a-sign z h .positive a
 
-pub primed-b-negative : (b : ℤ) → ltZ (primedB b) (pos 0) ≡ ltZ b (pos 0)
-primed-b-negative b = primed-b-sign .negative b
+pub in-ten-millionths-negative : (b : ℤ) → ltZ (inTenMillionths b) (pos 0) ≡ ltZ b (pos 0)
+in-ten-millionths-negative b = in-ten-millionths-sign .negative b
 
-pub primed-b-positive : (b : ℤ) → ltZ (pos 0) (primedB b) ≡ ltZ (pos 0) b
-primed-b-positive b = primed-b-sign .positive b
+pub in-ten-millionths-positive : (b : ℤ) → ltZ (pos 0) (inTenMillionths b) ≡ ltZ (pos 0) b
+in-ten-millionths-positive b = in-ten-millionths-sign .positive b
 
 -- the chroma is that of 1000 a and 1000 b
-pub chroma-plain : (a b : ℤ) → chromaOf a b ≡ primedChroma (primedB a) (primedB b)
+pub chroma-plain : (a b : ℤ) → chromaOf a b ≡ primedChroma (inTenMillionths a) (inTenMillionths b)
 unfolding chromaOf primedChroma sumOfSquares
-chroma-plain a b = ap rootOf (thousand (natAbs a) (natAbs b) (natAbs (primedB a)) (natAbs (primedB b)) (primed-b-size a) (primed-b-size b))
+chroma-plain a b = ap rootOf
+    (thousand (natAbs a) (natAbs b) (natAbs (inTenMillionths a)) (natAbs (inTenMillionths b)) (in-ten-millionths-size a)
+    (in-ten-millionths-size b))
   where
     thousand : (x y u v : ℕ) → u ≡ x * 1000 → v ≡ y * 1000 → 1000000 * (x * x + y * y) ≡ u * u + v * v
     thousand x y u v p q =

@@ -1,10 +1,9 @@
 -- Each definition at some numbers, by computation. Assumes nothing.
 use mathlib.Core.Path.{_≡_, refl}
-use mathlib.Core.List.{List, [], _∷_, map}
-use Prim.Native.Nat.{ℕ}
-use lib.IntN.{ℤ, pos, negℤ}
+use mathlib.Core.List.{[], _∷_, map}
+use lib.IntN.{pos, negℤ}
 use Rattle.isqrt.specs.Root.{nextRoot, rootIn, rootOf}
-use Rattle.chroma.specs.Chroma.{sumOfSquares, chromaOf, powerOf, hypotenuseOf, ratioOf, primedA, primedB, primedChroma}
+use Rattle.chroma.specs.Chroma.{sumOfSquares, chromaOf, powerOf, hypotenuseOf, ratioOf, primedA, inTenMillionths, primedChroma}
 
 -- the sums of no chroma, of a mean chroma of 15, 25, a little over 25, 50, and of the largest
 ratios :
@@ -23,8 +22,8 @@ primed-a-1 : primedA (negℤ (pos 13802)) 999892372 ≡ negℤ (pos 13802742)
 unfolding primedA
 primed-a-1 = refl
 
-primed-chroma-1 : primedChroma (negℤ (pos 13802742)) (primedB (negℤ (pos 842814))) ≡ 842927015
-unfolding nextRoot rootIn rootOf sumOfSquares primedB primedChroma
+primed-chroma-1 : primedChroma (negℤ (pos 13802742)) (inTenMillionths (negℤ (pos 842814))) ≡ 842927015
+unfolding nextRoot rootIn rootOf sumOfSquares inTenMillionths primedChroma
 primed-chroma-1 = refl
 
 -- the largest chromas

@@ -1,4 +1,4 @@
--- Steps 1 to 3 of 01's working: chroma, the seventh-power ratio (01's Z), and the primed coordinates and their chroma.
+-- Steps 1 to 3: chroma, the seventh-power ratio (01's Z), and the primed coordinates and their chroma.
 -- a and b are whole numbers of 10^-4 (01's grid), chroma, a' and b' of 10^-7, ratios of 10^-9. Division drops the remainder,
 -- toward zero.
 -- Assumes nothing.
@@ -13,7 +13,7 @@ use Rattle.isqrt.specs.Root.{rootOf}
 unfoldable pub sumOfSquares : ℤ → ℤ → ℕ
 sumOfSquares a b = natAbs a * natAbs a + natAbs b * natAbs b
 
--- step 1: C
+-- step 1: the chroma, 01's C
 unfoldable pub chromaOf : ℤ → ℤ → ℕ
 chromaOf a b = rootOf (1000000 * sumOfSquares a b)
 
@@ -40,9 +40,9 @@ ratioOf s =
 unfoldable pub primedA : ℤ → ℕ → ℤ
 primedA a z = quotZ (a *ℤ pos (3000000000 - z)) (pos 2000000)
 
--- b'
-unfoldable pub primedB : ℤ → ℤ
-primedB b = b *ℤ pos 1000
+-- a or b, in 1/10,000, in the unit of chroma; b' is that of b
+unfoldable pub inTenMillionths : ℤ → ℤ
+inTenMillionths x = x *ℤ pos 1000
 
 -- C' of a' and b'
 unfoldable pub primedChroma : ℤ → ℤ → ℕ

@@ -1,4 +1,4 @@
-// Chroma, the seventh-power ratio, and the primed coordinates and their chroma: steps 1 to 3 of 01's working.
+// Chroma, the seventh-power ratio, and the primed coordinates and their chroma: steps 1 to 3.
 // a and b are whole numbers of 10^-4, chroma, a' and b' of 10^-7, ratios of 10^-9.
 use isqrt::isqrt;
 use signed::Int;
@@ -6,8 +6,14 @@ use signed::divided;
 use signed::scaled;
 ghost use mathlib.Core.Path.{_≡_};
 ghost use Prim.Native.Nat.{_≤_};
-ghost use Rattle.signed.specs.Value.{int, Within};
-ghost use Rattle.chroma.specs.Chroma.{sumOfSquares, chromaOf, powerOf, hypotenuseOf, ratioOf, primedA, primedB, primedChroma};
+ghost use Rattle.signed.specs.Inner.{int, Within};
+ghost use Rattle.chroma.specs.Chroma.{sumOfSquares, chromaOf, powerOf, hypotenuseOf, ratioOf, primedA, inTenMillionths, primedChroma};
+
+// 1 in 10^-9.
+const ONE: u64 = 1000000000;
+
+// Its square.
+const ONE_SQUARED: u64 = 1000000000000000000;
 
 // The bounds are those of a' and b', so that it serves both chromas.
 fn sum_of_squares(a: Int, b: Int) -> u64
@@ -32,8 +38,8 @@ fn power(x: u64) -> u64
     requires { ⌜ x ≤ 1000000000 ⌝ }
     ensures { λ r. ⌜ r ≡ powerOf x ⌝ }
 {
-    let root = isqrt(1000000000 * x);
-    x * x / 1000000000 * x / 1000000000 * root / 1000000000
+    let root = isqrt(ONE * x);
+    x * x / ONE * x / ONE * root / ONE
 }
 
 // The root of 1 + p².
@@ -41,7 +47,7 @@ fn hypotenuse(p: u64) -> u64
     requires { ⌜ p ≤ 1000000000 ⌝ }
     ensures { λ r. ⌜ r ≡ hypotenuseOf p ⌝ }
 {
-    isqrt(1000000000000000000 + p * p)
+    isqrt(ONE_SQUARED + p * p)
 }
 
 // The seventh-power ratio of a chroma sum, C1 + C2 or C1' + C2'.
@@ -50,11 +56,11 @@ pub fn ratio(s: u64) -> u64
     ensures { λ r. ⌜ r ≡ ratioOf s ⌝ }
 {
     let x = 2 * s;
-    if x <= 1000000000 {
+    if x <= ONE {
         let p = power(x);
-        1000000000 * p / hypotenuse(p)
+        ONE * p / hypotenuse(p)
     } else {
-        1000000000000000000 / hypotenuse(power(1000000000000000000 / x))
+        ONE_SQUARED / hypotenuse(power(ONE_SQUARED / x))
     }
 }
 
@@ -67,11 +73,12 @@ pub fn primed_a(a: Int, z: u64) -> Int
     divided(scaled(a, 3000000000 - z), 2000000)
 }
 
-pub fn primed_b(b: Int) -> Int
-    requires { ⌜ b .n ≤ 1280000 ⌝ }
-    ensures { λ r. ⌜ Within (primedB (int b)) 1280000000 r ⌝ }
+// a or b in the unit of chroma; of b it is b'.
+pub fn in_ten_millionths(x: Int) -> Int
+    requires { ⌜ x .n ≤ 1280000 ⌝ }
+    ensures { λ r. ⌜ Within (inTenMillionths (int x)) 1280000000 r ⌝ }
 {
-    scaled(b, 1000)
+    scaled(x, 1000)
 }
 
 // The chroma of a' and b'.

@@ -1,6 +1,7 @@
--- `DeckLaws` and `Demand` are for callers; the others are for the proofs of this crate's functions.
+-- `DeckLaws` and `Searching` are for callers; the others are for the proofs of this crate's functions.
 pub mod DeckLaws
+pub mod Lanes
 pub mod LightnessWindow
-pub mod Demand
+pub mod Searching
 pub mod Steps
 pub mod Examples

@@ -1,8 +1,7 @@
--- The window: a swatch whose lightness is beyond the reach of the lightness bound does not match, so that only the places between two bounds count.
--- Assumes nothing.
+-- The window: a swatch whose lightness is beyond the reach of the lightness bound does not match, so that only the
+-- places between two bounds count. Assumes nothing.
 use mathlib.Core.Path.{_≡_, refl, sym, ap, _∙_}
 use mathlib.Core.Bool.{true, false, true≢false}
-use mathlib.Core.List.{List}
 use Prim.Native.Nat.{ℕ, zero, suc, _+_, _-_, _*_, _/_, _≤_, _<_}
 use native.Mathlib.Nat.{mul-le-mul}
 use native.Mathlib.Decide.{decLe}
@@ -10,24 +9,21 @@ use native.Mathlib.Omega.{arith}
 use borrow.Author.Tests.{ltb-true, leb-true, le-leb, lt-leb}
 use lib.Dec.{leb·zero}
 use lib.IntN.{ℤ, pos, negℤ, natAbs, _-ℤ_}
-use lib.ListN.{length}
 use lib.Signed.{ltZ, leZ}
-use Rattle.signed.specs.Value.{int}
+use Rattle.signed.specs.Inner.{int}
 use Rattle.signed.proofs.SignedLaws.{natAbs-neg, lt-pos-neg}
 use Rattle.signed.proofs.Results.{apart-down, apart-up}
-use Rattle.places.specs.Places.{at, hits, Split}
+use Rattle.places.specs.Places.{hits}
+use Rattle.places.specs.Inner.{Split}
 use Rattle.places.proofs.PlacesLaws.{split-order, matches-between}
-use Rattle.fixed_point.specs.Samples.{Sample, SampleIn, WeightsIn}
-use Rattle.fixed_point.specs.declared.FixedWeights.{FixedWeights}
+use Rattle.sample.specs.Sample.{colourSample}
+use Rattle.sample.specs.Inner.{SampleIn, WeightsIn}
+use Rattle.sample.proofs.SampleLaws.{accepted-in, accepted-lightness}
 use Rattle.difference.specs.Pair.{lightnessDifference}
-use Rattle.difference.specs.Differences.{withinTolerance}
-use Rattle.difference.specs.Carried.{preparedSample}
+use Rattle.difference.specs.Verdict.{withinTolerance}
 use Rattle.difference.proofs.LightnessBound.{beyond-tolerance}
-use Rattle.deck.specs.Deck.{Swatch, columnsAt, swatchSample, swatchIn, differenceAt, matchAt, matchList}
-use Rattle.deck.specs.Carried.{Accepted, queryMatch, queryMatches}
-use Rattle.deck.specs.declared.Query.{Query}
-use Rattle.deck.specs.declared.Window.{Window}
-use Rattle.deck.proofs.DeckLaws.{swatch-sample-in, swatch-lightness, Valid}
+use Rattle.deck.specs.Deck.{Deck, FixedQuery, differenceAt, matchAt, matchList}
+use Rattle.deck.proofs.DeckLaws.{Valid}
 
 -- ---- differences of naturals
 
@@ -68,8 +64,12 @@ module _ (x d : ℕ) where
       negative (suc n) m = refl
 
       by-order : Dec (d + 1 ≤ x + 1) → leZ (pos (x + 1) -ℤ pos (d + 1)) (pos (x + (d + 1))) ≡ true
-      by-order (yes h) = ap (λ z. leZ z (pos (x + (d + 1)))) (sub-down (x + 1) (d + 1) h) ∙ le-leb (x + 1 - (d + 1)) (x + (d + 1)) (omega arith)
-      by-order (no f) = ap (λ z. leZ z (pos (x + (d + 1)))) (sub-up (x + 1) (d + 1) (omega (arith, f))) ∙ negative (d + 1 - (x + 1)) (x + (d + 1))
+      by-order (yes h) =
+          ap (λ z. leZ z (pos (x + (d + 1)))) (sub-down (x + 1) (d + 1) h)
+          ∙ le-leb (x + 1 - (d + 1)) (x + (d + 1)) (omega arith)
+      by-order (no f) =
+          ap (λ z. leZ z (pos (x + (d + 1)))) (sub-up (x + 1) (d + 1) (omega (arith, f)))
+          ∙ negative (d + 1 - (x + 1)) (x + (d + 1))
 
 -- a reach of x / 40,000 in whole numbers
 beyond : (x d : ℕ) → x / 40000 < d → x < 40000 * d
@@ -84,42 +84,40 @@ reach-most k τ h t =
 
 -- ---- a swatch beyond the reach
 
-module _ (w : FixedWeights) (reading : Sample) (τ : ℕ) (p : WeightsIn w) (q : SampleIn reading) where
-  abbrev pub reachOf : ℕ
-  reachOf = 7 * w .l * (τ + 1) / 40000
+module _ (q : FixedQuery) (p : WeightsIn (q .weights)) (r : SampleIn (q .reading)) (d : Deck) (v : Valid d) where
+  abbrev reachOf : ℕ
+  reachOf = 7 * q .weights .l * (q .tolerance + 1) / 40000
 
-  module _ (swatch : ℕ → Swatch) (k : ℕ) (h : swatchIn (swatch k) ≡ true) where
-    far-fails : reachOf < natAbs (pos (reading .l) -ℤ pos (swatchSample (swatch k) .l)) → matchAt w reading τ swatch k ≡ false
-    unfolding matchAt differenceAt withinTolerance lightnessDifference
+  abbrev lightness : ℕ → ℤ
+  lightness k = d .colour k .l
+
+  module _ (k : ℕ) (l : k < d .count) where
+    far-fails : reachOf < natAbs (pos (q .reading .l) -ℤ pos (natAbs (lightness k))) → matchAt q d k ≡ false
+    unfolding matchAt differenceAt withinTolerance lightnessDifference colourSample
     far-fails f =
-        lt-leb _ _ (beyond-tolerance w (swatchSample (swatch k)) reading τ (swatch-sample-in (swatch k) h) q p (beyond _ _ f))
+        let s = accepted-in (d .colour k) (v .colours k l) in
+        lt-leb _ _ (beyond-tolerance (q .weights) _ (q .reading) (q .tolerance) s r p (beyond _ _ f))
 
-    pub below-fails : ltZ (swatch k .l) (pos (reading .l + 1) -ℤ pos (reachOf + 1)) ≡ true → matchAt w reading τ swatch k ≡ false
+    whole : lightness k ≡ pos (natAbs (lightness k))
+    whole = accepted-lightness (d .colour k) (v .colours k l)
+
+    below-fails : ltZ (lightness k) (pos (q .reading .l + 1) -ℤ pos (reachOf + 1)) ≡ true → matchAt q d k ≡ false
     below-fails e =
-        far-fails (below-reach (reading .l) reachOf _ (ap (λ z. ltZ z (pos (reading .l + 1) -ℤ pos (reachOf + 1))) (sym (swatch-lightness (swatch k) h)) ∙ e))
+        let low = pos (q .reading .l + 1) -ℤ pos (reachOf + 1) in
+        far-fails (below-reach _ reachOf _ (ap (λ z. ltZ z low) (sym whole) ∙ e))
 
-    pub above-fails : leZ (pos (reading .l + (reachOf + 1))) (swatch k .l) ≡ true → matchAt w reading τ swatch k ≡ false
-    above-fails e =
-        far-fails (above-reach (reading .l) reachOf _ (ap (leZ (pos (reading .l + (reachOf + 1)))) (sym (swatch-lightness (swatch k) h)) ∙ e))
+    above-fails : leZ (pos (q .reading .l + (reachOf + 1))) (lightness k) ≡ true → matchAt q d k ≡ false
+    above-fails e = far-fails (above-reach _ reachOf _ (ap (leZ (pos (q .reading .l + (reachOf + 1)))) (sym whole) ∙ e))
 
-  -- the matches of a whole deck are those of the window
-  pub window-matches : (l a b : List ℤ) → Valid l a b → (lo hi : ℕ)
-      → Split (at l) (length l) (pos (reading .l + 1) -ℤ pos (reachOf + 1)) lo → Split (at l) (length l) (pos (reading .l + (reachOf + 1))) hi
-      → matchList w reading τ (columnsAt l a b) (length l) ≡ hits (matchAt w reading τ (columnsAt l a b)) lo (hi - lo)
-  unfolding matchList columnsAt
-  window-matches l a b v lo hi s t =
-      matches-between (at l) (length l) _ _ (reach-order (reading .l) reachOf) lo hi s t (matchAt w reading τ (columnsAt l a b))
-      (λ k m e. below-fails (columnsAt l a b) k (v .swatches k m) e)
-      (λ k m e. above-fails (columnsAt l a b) k (v .swatches k m) e)
+  -- a window of the reach n holds all the matches
+  module _ (n : ℕ) (e : n ≡ reachOf) (lo hi : ℕ)
+      (s : Split lightness (d .count) (pos (q .reading .l + 1) -ℤ pos (n + 1)) lo)
+      (t : Split lightness (d .count) (pos (q .reading .l + (n + 1))) hi) where
+    pub window-order : lo ≤ hi
+    window-order = split-order lightness (d .count) _ _ (reach-order (q .reading .l) n) lo hi s t
 
--- ---- the window of a query
-
-module _ (q : Query) (h : Accepted q) (l a b : List ℤ) (v : Valid l a b) (d : ℕ) (e : d ≡ 7 * q .weights .l * (q .tolerance + 1) / 40000) (w : Window)
-    (s : Split (at l) (length l) (pos (q .reading .l + 1) -ℤ pos (d + 1)) (w .from)) (t : Split (at l) (length l) (pos (q .reading .l + (d + 1))) (w .to)) where
-  pub window-order : w .from ≤ w .to
-  window-order = split-order (at l) (length l) _ _ (reach-order (q .reading .l) d) (w .from) (w .to) s t
-
-  pub query-window : queryMatches q (columnsAt l a b) (length l) ≡ hits (queryMatch q (columnsAt l a b)) (w .from) (w .to - w .from)
-  unfolding queryMatches queryMatch preparedSample
-  query-window =
-      window-matches (q .weights) (preparedSample (q .reading)) (q .tolerance) (h .weights) (h .reading .within) l a b v (w .from) (w .to) (rw e at s) (rw e at t)
+    pub window-matches : matchList q d ≡ hits (matchAt q d) lo (hi - lo)
+    unfolding matchList
+    window-matches =
+        matches-between lightness (d .count) _ _ (reach-order (q .reading .l) n) lo hi s t (matchAt q d)
+        (λ k l h. below-fails k l (rw e at h)) (λ k l h. above-fails k l (rw e at h))

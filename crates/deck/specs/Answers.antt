@@ -1,4 +1,5 @@
--- What a search answers and what it leaves in the caller's list, of the refusal that applies (0 where none does), the places that match, and the list.
+-- What a search answers and what it leaves in the caller's list, of the refusal that applies (0 where none does), the
+-- places that match, and the list.
 use mathlib.Core.Path.{_≡_}
 use Prim.Native.Nat.{ℕ, zero, suc}
 use mathlib.Core.Bool.{cond}
@@ -22,7 +23,7 @@ contentsOf (suc n) matches old = old
 unfoldable pub roomRefusal : ℕ → ℕ → ℕ
 roomRefusal needed room = cond (leb needed room) 0 8
 
--- ---- paper 01's number and values for each case
+-- ---- the number and the values of each case
 
 -- the refusal number; 0 is no refusal
 abbrev pub numberOf : Found → ℕ

@@ -1,6 +1,6 @@
--- What the contracts of `deck` cite.
+-- What the contracts of `deck` cite; `Inner` is what only inner contracts cite.
 pub mod Deck
 pub mod Answers
+pub mod ListsMatches
 pub mod Search
-pub mod DemandThree
-pub mod Carried
+pub mod Inner

@@ -1,27 +1,33 @@
 // A search of a deck of swatches for those within a tolerance of a reading. A deck is three lent
 // columns, L, a and b, in 1/10,000, sorted by lightness, so that only a window of it is looked at.
+// The work is done on lanes: a lane is a slice, of which every stride-th number counts, and a column
+// is a lane with stride 1.
 ghost use mathlib.Core.Path.{_≡_};
 ghost use mathlib.Core.Bool.{true};
 ghost use Prim.Native.Nat.{_+_, _-_, _*_, _/_, _≤_, _<_};
 ghost use lib.IntN.{pos, _-ℤ_};
 ghost use lib.ListN.{length, take};
-ghost use Rattle.sine.specs.Sine.{SineTable};
-ghost use Rattle.gaussian.specs.Gaussian.{GaussianTable};
-ghost use Rattle.places.specs.Places.{at, hits, rising, Split};
+ghost use Rattle.sine.specs.Inner.{SineTable};
+ghost use Rattle.gaussian.specs.Inner.{GaussianTable};
+ghost use Rattle.places.specs.Places.{hits, rising};
+ghost use Rattle.places.specs.Inner.{laneAt, Spans, Split};
+ghost use Rattle.sample.specs.Inner.{colourOf, WeightIn};
 ghost use Rattle.fixed_point.specs.Refusals.{readingRefusal, weightsRefusal, toleranceRefusal};
-ghost use Rattle.fixed_point.specs.Samples.{sampleOf, weightsOf, WeightIn};
-ghost use Rattle.fixed_point.specs.Rounding.{fixedSize};
-ghost use Rattle.difference.specs.Carried.{Prepares};
-ghost use Rattle.deck.specs.Deck.{columnsAt, swatchSample, swatchIn, sizesIn, swatchesIn, columnsRefusal, searchRefusal};
-ghost use Rattle.deck.specs.Answers.{foundOf, contentsOf, numberOf, countOf, Refuses};
-ghost use Rattle.deck.specs.Search.{searchTally, searchAnswer, searchContents, searchNumber};
-ghost use Rattle.deck.specs.DemandThree.{DemandThree};
-ghost use Rattle.deck.specs.Carried.{Accepted, Asks, Holds, queryMatch, queryMatches};
-use difference::Prepared;
-use fixed_point::FixedWeights;
-use fixed_point::Lab;
+ghost use Rattle.difference.specs.Inner.{Millionths};
+ghost use Rattle.deck.specs.Deck.{columns, asked, fixedQuery, mostSwatches, sizesIn, swatchesIn, deckRefusal};
+ghost use Rattle.deck.specs.Deck.{searchRefusal, differenceAt, matchAt, matchList};
+ghost use Rattle.deck.specs.Answers.{foundOf, contentsOf};
+ghost use Rattle.deck.specs.Search.{Searches};
+ghost use Rattle.deck.specs.Inner.{queryOf, Accepted, IsQuery, ScratchIs};
+ghost use Rattle.deck.specs.Inner.{lanesAt, lanes, columnsLayout, Laid, Usable};
+use difference::prepared::Prepared;
 use fixed_point::Reading;
 use fixed_point::Weights;
+use sample::FixedColour;
+use sample::FixedWeights;
+
+// The most swatches of a deck.
+const MOST_SWATCHES: usize = 4096;
 
 // What a search answers: the number of matches, the refusal's number, or that the list is too short
 // (refusal 8), with the number of entries that it needs.
@@ -32,10 +38,18 @@ pub enum Found {
 }
 
 // What a search asks of each swatch, in 1/10,000: worked out once.
-struct Query {
+struct PreparedQuery {
     weights: FixedWeights,
     reading: Prepared,
     tolerance: u64,
+}
+
+// How a deck lies in its lanes: whether its size is in order, how far apart two swatches stand, and
+// their number.
+struct Layout {
+    sized: bool,
+    stride: usize,
+    count: usize,
 }
 
 // The places from `from` up to `to`, which is not one of them.
@@ -44,40 +58,63 @@ struct Window {
     to: usize,
 }
 
-// ---- refusals
+// ---- how a deck is kept
 
 // Whether the columns are of one length, of at most 4,096.
 fn sizes_in(l: &[i32], a: &[i32], b: &[i32]) -> bool
     ensures { λ r. ⌜ r ≡ sizesIn (now (l .entry)) (now (a .entry)) (now (b .entry)) ⌝ }
 {
-    if a.len() == l.len() {
-        if b.len() == l.len() {
-            return l.len() <= 4096;
-        }
-    }
-    false
+    (a.len() == l.len()) & ((b.len() == l.len()) & (l.len() <= MOST_SWATCHES))
 }
+
+// Columns are lanes with stride 1.
+fn columns_layout(l: &[i32], a: &[i32], b: &[i32]) -> Layout
+    ensures { λ r. ⌜ r ≡ columnsLayout (now (l .entry)) (now (a .entry)) (now (b .entry)) ⌝ }
+{
+    Layout {
+        sized: sizes_in(l, a, b),
+        stride: 1,
+        count: l.len(),
+    }
+}
+
+// The swatch at a place: the one access to a deck's numbers.
+fn colour_at(stride: usize, l: &[i32], a: &[i32], b: &[i32], k: usize) -> FixedColour
+    requires { ⌜ (k * stride < length (now l)) × ((k * stride < length (now a)) × (k * stride < length (now b))) ⌝ }
+    ensures { λ r. ⌜ colourOf r ≡ lanesAt stride (now (l .entry)) (now (a .entry)) (now (b .entry)) k ⌝ }
+{
+    FixedColour {
+        l: signed::from_i32(places::entry(l, stride, k)),
+        a: signed::from_i32(places::entry(a, stride, k)),
+        b: signed::from_i32(places::entry(b, stride, k)),
+    }
+}
+
+// ---- refusals
 
 // Whether each swatch is within the limits.
-fn swatches_in(l: &[i32], a: &[i32], b: &[i32]) -> bool
-    requires { ⌜ sizesIn (now l) (now a) (now b) ≡ true ⌝ }
-    ensures { λ r. ⌜ r ≡ swatchesIn (columnsAt (now (l .entry)) (now (a .entry)) (now (b .entry))) (length (now (l .entry))) ⌝ }
+fn swatches_in(s: Layout, l: &[i32], a: &[i32], b: &[i32]) -> bool
+    requires { ⌜ Laid s (now l) (now a) (now b) ⌝ }
+    ensures { λ r. ⌜ r ≡ swatchesIn (lanes s (now (l .entry)) (now (a .entry)) (now (b .entry))) ⌝ }
 {
-    if places::all_within(l, 0, 1000000) {
-        if places::all_within(a, -1280000, 1280000) {
-            return places::all_within(b, -1280000, 1280000);
+    let mut k = 0;
+    while k < s.count {
+        if sample::colour_refusal(colour_at(s.stride, l, a, b, k)) != 0 {
+            return false;
         }
+        k += 1;
     }
-    false
+    true
 }
 
-// Refusal 6 or 7 of paper 01, or 0.
-pub fn deck_refusal(l: &[i32], a: &[i32], b: &[i32]) -> u8
-    ensures { λ r. ⌜ r ≡ columnsRefusal (now (l .entry)) (now (a .entry)) (now (b .entry)) ⌝ }
+// Refusal 6 or 7 of a deck in lanes, or 0.
+fn lanes_refusal(s: Layout, l: &[i32], a: &[i32], b: &[i32]) -> u8
+    requires { ⌜ (s .sized ≡ true → Laid s (now l) (now a) (now b)) ⌝ }
+    ensures { λ r. ⌜ r ≡ deckRefusal (lanes s (now (l .entry)) (now (a .entry)) (now (b .entry))) ⌝ }
 {
-    if sizes_in(l, a, b) {
-        if swatches_in(l, a, b) {
-            if places::rises(l) {
+    if s.sized {
+        if swatches_in(s, l, a, b) {
+            if places::rises(l, s.stride, s.count) {
                 return 0;
             }
             return 7; // lightness falls
@@ -87,8 +124,18 @@ pub fn deck_refusal(l: &[i32], a: &[i32], b: &[i32]) -> u8
     6
 }
 
+// Refusal 6 or 7 of a deck, or 0.
+pub fn deck_refusal(l: &[i32], a: &[i32], b: &[i32]) -> u8
+    ensures { λ r. ⌜ r ≡ deckRefusal (columns (now (l .entry)) (now (a .entry)) (now (b .entry))) ⌝ }
+    ensures columns { λ _. ⌜ (now (l .exit) ≡ now (l .entry))
+        × ((now (a .exit) ≡ now (a .entry)) × (now (b .exit) ≡ now (b .entry))) ⌝ }
+{
+    lanes_refusal(columns_layout(l, a, b), l, a, b)
+}
+
 // The first that applies of refusals 1 to 7, or 0.
 fn search_refusal(
+    s: Layout,
     l: &[i32],
     a: &[i32],
     b: &[i32],
@@ -96,50 +143,70 @@ fn search_refusal(
     weights: Weights,
     tolerance: f32,
 ) -> u8
-    ensures { λ r. ⌜ r ≡ searchRefusal reading weights tolerance (now (l .entry)) (now (a .entry)) (now (b .entry)) ⌝ }
+    requires { ⌜ (s .sized ≡ true → Laid s (now l) (now a) (now b)) ⌝ }
+    ensures { λ r.
+        let deck = lanes s (now (l .entry)) (now (a .entry)) (now (b .entry)) in
+        ⌜ r ≡ searchRefusal (asked reading weights tolerance) deck ⌝ }
 {
     let by_reading = fixed_point::reading_refusal(reading);
     let by_weights = fixed_point::weights_refusal(weights);
     let by_tolerance = fixed_point::tolerance_refusal(tolerance);
-    let by_deck = deck_refusal(l, a, b);
-    let last = fixed_point::first_of(by_tolerance, by_deck);
-    fixed_point::first_of(by_reading, fixed_point::first_of(by_weights, last))
+    let by_deck = lanes_refusal(s, l, a, b);
+    let last = sample::first_of(by_tolerance, by_deck);
+    sample::first_of(by_reading, sample::first_of(by_weights, last))
 }
 
 // ---- matches
 
-fn query_of(reading: Reading, weights: Weights, tolerance: f32) -> Query
+// The query in 1/10,000, with what depends on the reading alone.
+fn prepare_query(reading: Reading, weights: Weights, tolerance: f32) -> PreparedQuery
     requires { ⌜ readingRefusal reading ≡ 0 ⌝ }
     requires { ⌜ weightsRefusal weights ≡ 0 ⌝ }
     requires { ⌜ toleranceRefusal tolerance ≡ 0 ⌝ }
-    ensures { λ r. ⌜ Asks (weightsOf weights) (sampleOf reading) (fixedSize tolerance) r ⌝ }
+    ensures { λ r. ⌜ IsQuery (fixedQuery (asked reading weights tolerance)) r ⌝ }
 {
-    Query {
+    PreparedQuery {
         weights: fixed_point::fixed_weights(weights),
-        reading: difference::prepare(fixed_point::fixed_reading(reading)),
+        reading: difference::prepared::prepare(fixed_point::fixed_reading(reading)),
         tolerance: fixed_point::fixed_tolerance(tolerance),
     }
 }
 
-// The swatch at a place.
-fn swatch_at(l: &[i32], a: &[i32], b: &[i32], k: usize) -> Prepared
-    requires { ⌜ (k < length (now l)) × ((k < length (now a)) × (k < length (now b))) ⌝ }
-    requires { ⌜ swatchIn (columnsAt (now l) (now a) (now b) k) ≡ true ⌝ }
-    ensures { λ r. ⌜ Prepares (swatchSample (columnsAt (now (l .entry)) (now (a .entry)) (now (b .entry)) k)) r ⌝ }
+// The difference of the swatch at a place, which is sample 1, and the reading.
+fn difference_at(
+    sines: &[u32; 901],
+    gaussians: &[u32; 1201],
+    q: PreparedQuery,
+    s: Layout,
+    l: &[i32],
+    a: &[i32],
+    b: &[i32],
+    k: usize,
+) -> u64
+    requires { ⌜ (SineTable (now sines)) × (GaussianTable (now gaussians)) ⌝ }
+    requires { ⌜ Accepted q ⌝ }
+    requires { ⌜ Usable s (now l) (now a) (now b) ⌝ }
+    requires { ⌜ k < s .count ⌝ }
+    ensures { λ r.
+        let deck = lanes s (now (l .entry)) (now (a .entry)) (now (b .entry)) in
+        ⌜ Millionths (differenceAt (queryOf q) deck k) r ⌝ }
 {
-    let lightness = signed::from_i32(l[k]);
-    difference::prepare(Lab {
-        l: signed::size(lightness),
-        a: signed::from_i32(a[k]),
-        b: signed::from_i32(b[k]),
-    })
+    let swatch = sample::sample_of(colour_at(s.stride, l, a, b, k));
+    difference::ciede2000::ciede2000(
+        sines,
+        gaussians,
+        q.weights,
+        difference::prepared::prepare(swatch),
+        q.reading,
+    )
 }
 
 // Whether the swatch at a place matches.
 fn matches_at(
     sines: &[u32; 901],
     gaussians: &[u32; 1201],
-    q: Query,
+    q: PreparedQuery,
+    s: Layout,
     l: &[i32],
     a: &[i32],
     b: &[i32],
@@ -147,13 +214,14 @@ fn matches_at(
 ) -> bool
     requires { ⌜ (SineTable (now sines)) × (GaussianTable (now gaussians)) ⌝ }
     requires { ⌜ Accepted q ⌝ }
-    requires { ⌜ columnsRefusal (now l) (now a) (now b) ≡ 0 ⌝ }
-    requires { ⌜ k < length (now l) ⌝ }
-    ensures { λ r. ⌜ r ≡ queryMatch q (columnsAt (now (l .entry)) (now (a .entry)) (now (b .entry))) k ⌝ }
+    requires { ⌜ Usable s (now l) (now a) (now b) ⌝ }
+    requires { ⌜ k < s .count ⌝ }
+    ensures { λ r.
+        let deck = lanes s (now (l .entry)) (now (a .entry)) (now (b .entry)) in
+        ⌜ r ≡ matchAt (queryOf q) deck k ⌝ }
 {
-    let swatch = swatch_at(l, a, b, k);
-    let d = difference::ciede2000(sines, gaussians, q.weights, swatch, q.reading);
-    difference::within_tolerance(d, q.tolerance)
+    let d = difference_at(sines, gaussians, q, s, l, a, b, k);
+    difference::verdict::within_tolerance(d, q.tolerance)
 }
 
 // The greatest difference in lightness that a match can have.
@@ -166,19 +234,24 @@ fn reach(k: u64, tolerance: u64) -> u64
 }
 
 // The places whose lightness is within reach.
-fn lightness_window(column: &[i32], lightness: u64, reach: u64) -> Window
-    requires { ⌜ rising (at (now column)) (length (now column)) ≡ true ⌝ }
+fn lightness_window(lane: &[i32], stride: usize, n: usize, lightness: u64, reach: u64) -> Window
+    requires { ⌜ Spans (now lane) stride n ⌝ }
+    requires { ⌜ rising (laneAt (now lane) stride) n ≡ true ⌝ }
     requires { ⌜ lightness ≤ 1000000 ⌝ }
     requires { ⌜ reach ≤ 17500018 ⌝ }
-    ensures from { λ r. ⌜ Split (at (now (column .entry))) (length (now (column .entry))) (pos (lightness + 1) -ℤ pos (reach + 1)) (r .from) ⌝ }
-    ensures to { λ r. ⌜ Split (at (now (column .entry))) (length (now (column .entry))) (pos (lightness + (reach + 1))) (r .to) ⌝ }
+    ensures from { λ r.
+        let low = pos (lightness + 1) -ℤ pos (reach + 1) in
+        ⌜ Split (laneAt (now (lane .entry)) stride) n low (r .from) ⌝ }
+    ensures to { λ r.
+        let high = pos (lightness + (reach + 1)) in
+        ⌜ Split (laneAt (now (lane .entry)) stride) n high (r .to) ⌝ }
 {
     let beyond = reach + 1;
     let low = signed::to_i32(signed::natural_difference(lightness + 1, beyond));
     let high = signed::to_i32(signed::natural(lightness + beyond));
     Window {
-        from: places::first_at_least(column, low),
-        to: places::first_at_least(column, high),
+        from: places::first_at_least(lane, stride, n, low),
+        to: places::first_at_least(lane, stride, n, high),
     }
 }
 
@@ -186,25 +259,28 @@ fn lightness_window(column: &[i32], lightness: u64, reach: u64) -> Window
 fn gather(
     sines: &[u32; 901],
     gaussians: &[u32; 1201],
-    q: Query,
+    q: PreparedQuery,
+    s: Layout,
     l: &[i32],
     a: &[i32],
     b: &[i32],
     w: Window,
-    found: &mut [u16; 4096],
+    found: &mut [u16; MOST_SWATCHES],
 ) -> usize
     requires { ⌜ (SineTable (now sines)) × (GaussianTable (now gaussians)) ⌝ }
     requires { ⌜ Accepted q ⌝ }
-    requires { ⌜ columnsRefusal (now l) (now a) (now b) ≡ 0 ⌝ }
-    requires { ⌜ (w .from ≤ w .to) × (w .to ≤ length (now l)) ⌝ }
-    requires { ⌜ length (now found) ≡ 4096 ⌝ }
-    ensures { λ r. ⌜ Holds (hits (queryMatch q (columnsAt (now (l .entry)) (now (a .entry)) (now (b .entry)))) (w .from) (w .to - w .from)) (now (found .exit)) r ⌝ }
+    requires { ⌜ Usable s (now l) (now a) (now b) ⌝ }
+    requires { ⌜ (w .from ≤ w .to) × (w .to ≤ s .count) ⌝ }
+    requires { ⌜ length (now found) ≡ mostSwatches ⌝ }
+    ensures { λ r.
+        let deck = lanes s (now (l .entry)) (now (a .entry)) (now (b .entry)) in
+        ⌜ ScratchIs (hits (matchAt (queryOf q) deck) (w .from) (w .to - w .from)) (now (found .exit)) r ⌝ }
 {
     let mut n = 0;
     let mut i = w.from;
     let end = w.to;
     while i < end {
-        if matches_at(sines, gaussians, q, l, a, b, i) {
+        if matches_at(sines, gaussians, q, s, l, a, b, i) {
             found[n] = i as u16;
             n += 1;
         }
@@ -214,26 +290,35 @@ fn gather(
 }
 
 // All the matches, to the front of the scratch list; their number.
-fn matches(q: Query, l: &[i32], a: &[i32], b: &[i32], found: &mut [u16; 4096]) -> usize
+fn matches(
+    q: PreparedQuery,
+    s: Layout,
+    l: &[i32],
+    a: &[i32],
+    b: &[i32],
+    found: &mut [u16; MOST_SWATCHES],
+) -> usize
     requires { ⌜ Accepted q ⌝ }
-    requires { ⌜ columnsRefusal (now l) (now a) (now b) ≡ 0 ⌝ }
-    requires { ⌜ length (now found) ≡ 4096 ⌝ }
-    ensures { λ r. ⌜ Holds (queryMatches q (columnsAt (now (l .entry)) (now (a .entry)) (now (b .entry))) (length (now (l .entry)))) (now (found .exit)) r ⌝ }
+    requires { ⌜ Usable s (now l) (now a) (now b) ⌝ }
+    requires { ⌜ length (now found) ≡ mostSwatches ⌝ }
+    ensures { λ r.
+        let deck = lanes s (now (l .entry)) (now (a .entry)) (now (b .entry)) in
+        ⌜ ScratchIs (matchList (queryOf q) deck) (now (found .exit)) r ⌝ }
 {
     let sines = sine::sine_table();
     let gaussians = gaussian::gaussian_table();
     let weights = q.weights;
     let reading = q.reading;
-    let w = lightness_window(l, reading.l, reach(weights.l, q.tolerance));
-    gather(&sines, &gaussians, q, l, a, b, w, found)
+    let d = reach(weights.l, q.tolerance);
+    let w = lightness_window(l, s.stride, s.count, reading.l, d);
+    gather(&sines, &gaussians, q, s, l, a, b, w, found)
 }
 
 // ---- the search
 
 // Copies n matches to the caller's list where there is room for them.
-fn answer(found: &[u16; 4096], n: usize, places: &mut [u16]) -> Found
-    requires { ⌜ length (now found) ≡ 4096 ⌝ }
-    requires { ⌜ n ≤ 4096 ⌝ }
+fn answer(found: &[u16; MOST_SWATCHES], n: usize, places: &mut [u16]) -> Found
+    requires { ⌜ n ≤ length (now found) ⌝ }
     ensures answer { λ r. ⌜ r ≡ foundOf 0 (take n (now (found .entry))) (length (now (places .entry))) ⌝ }
     ensures contents { λ _. ⌜ now (places .exit) ≡ contentsOf 0 (take n (now (found .entry))) (now (places .entry)) ⌝ }
 {
@@ -245,9 +330,36 @@ fn answer(found: &[u16; 4096], n: usize, places: &mut [u16]) -> Found
     Found::Short(n)
 }
 
+// The search of a deck in lanes.
+fn search_lanes(
+    s: Layout,
+    l: &[i32],
+    a: &[i32],
+    b: &[i32],
+    reading: Reading,
+    weights: Weights,
+    tolerance: f32,
+    places: &mut [u16],
+) -> Found
+    requires { ⌜ (s .sized ≡ true → Laid s (now l) (now a) (now b)) ⌝ }
+    ensures { λ r.
+        let deck = lanes s (now (l .entry)) (now (a .entry)) (now (b .entry)) in
+        let query = asked reading weights tolerance in
+        ⌜ Searches query deck (now (places .entry)) (now (places .exit)) r ⌝ }
+{
+    let refusal = search_refusal(s, l, a, b, reading, weights, tolerance);
+    if refusal != 0 {
+        return Found::Refused(refusal);
+    }
+    let q = prepare_query(reading, weights, tolerance);
+    let mut found = [0u16; MOST_SWATCHES];
+    let n = matches(q, s, l, a, b, &mut found);
+    answer(&found, n, places)
+}
+
 // The places of the swatches within a tolerance of a reading, to the front of the caller's list.
 // Swatches are sample 1, the reading sample 2; places count from 0, and equal swatches are each
-// listed. `answer` and `contents` say all, for every call; demand 3 is `listed` and `short`.
+// listed. `Searches` says all, for every call.
 pub fn search(
     l: &[i32],
     a: &[i32],
@@ -257,33 +369,13 @@ pub fn search(
     tolerance: f32,
     places: &mut [u16],
 ) -> Found
-    ensures answer { λ r. ⌜ r ≡ searchAnswer reading weights tolerance (now (l .entry)) (now (a .entry)) (now (b .entry))
-        (length (now (places .entry))) ⌝ }
-    ensures contents { λ _. ⌜ now (places .exit) ≡ searchContents reading weights tolerance (now (l .entry)) (now (a .entry)) (now (b .entry))
-        (now (places .entry)) ⌝ }
-    ensures number { λ r. ⌜ numberOf r ≡ searchNumber reading weights tolerance (now (l .entry)) (now (a .entry)) (now (b .entry))
-        (length (now (places .entry))) ⌝ }
-    ensures refused { λ r. ⌜ (0 < searchRefusal reading weights tolerance (now (l .entry)) (now (a .entry)) (now (b .entry))
-        → Refuses (searchRefusal reading weights tolerance (now (l .entry)) (now (a .entry)) (now (b .entry))) 0 r
-        (now (places .entry)) (now (places .exit))) ⌝ }
-    ensures short { λ r. ⌜ (searchRefusal reading weights tolerance (now (l .entry)) (now (a .entry)) (now (b .entry)) ≡ 0
-        → length (now (places .entry)) < searchTally reading weights tolerance (now (l .entry)) (now (a .entry)) (now (b .entry))
-        → (r ≡ Found.Short (searchTally reading weights tolerance (now (l .entry)) (now (a .entry)) (now (b .entry))))
-        × Refuses 8 (searchTally reading weights tolerance (now (l .entry)) (now (a .entry)) (now (b .entry))) r
-        (now (places .entry)) (now (places .exit))) ⌝ }
-    ensures listed { λ r. ⌜ (searchRefusal reading weights tolerance (now (l .entry)) (now (a .entry)) (now (b .entry)) ≡ 0
-        → searchTally reading weights tolerance (now (l .entry)) (now (a .entry)) (now (b .entry)) ≤ length (now (places .entry))
-        → DemandThree (weightsOf weights) (sampleOf reading) (fixedSize tolerance)
-        (columnsAt (now (l .entry)) (now (a .entry)) (now (b .entry))) (length (now (l .entry)))
-        (countOf r) (now (places .entry)) (now (places .exit))) ⌝ }
+    ensures { λ r.
+        let deck = columns (now (l .entry)) (now (a .entry)) (now (b .entry)) in
+        let query = asked reading weights tolerance in
+        ⌜ Searches query deck (now (places .entry)) (now (places .exit)) r ⌝ }
     ensures columns { λ _. ⌜ (now (l .exit) ≡ now (l .entry))
         × ((now (a .exit) ≡ now (a .entry)) × (now (b .exit) ≡ now (b .entry))) ⌝ }
 {
-    let refusal = search_refusal(l, a, b, reading, weights, tolerance);
-    if refusal != 0 {
-        return Found::Refused(refusal);
-    }
-    let mut found = [0u16; 4096];
-    let n = matches(query_of(reading, weights, tolerance), l, a, b, &mut found);
-    answer(&found, n, places)
+    let s = columns_layout(l, a, b);
+    search_lanes(s, l, a, b, reading, weights, tolerance, places)
 }

@@ -1,4 +1,4 @@
-// Searches of decks, with what each finds: 01's grey deck, an empty one, one of 300 swatches with
+// Searches of decks, with what each finds: a deck of greys, an empty one, one of 300 swatches with
 // several tolerances, weights and lists, and decks that are refused.
 ghost use mathlib.Core.Path.{_≡_};
 ghost use lib.ListN.{length};
@@ -83,7 +83,7 @@ fn grey50() -> Reading {
     }
 }
 
-// 01's example, and what is refused of it.
+// The deck of greys, and what is refused of it.
 fn grey_cases() {
     let l = [400000, 450000, 500000, 500000, 600000];
     let zeros = [0; 5];
@@ -173,7 +173,8 @@ fn opponent(n: usize) -> i32 {
 // 300 swatches, of lightness 0 up to 99.6567.
 fn generate(l: &mut [i32; 300], a: &mut [i32; 300], b: &mut [i32; 300])
     requires { ⌜ (length (now l) ≡ 300) × ((length (now a) ≡ 300) × (length (now b) ≡ 300)) ⌝ }
-    ensures { λ _. ⌜ (length (now (l .exit)) ≡ 300) × ((length (now (a .exit)) ≡ 300) × (length (now (b .exit)) ≡ 300)) ⌝ }
+    ensures { λ _. ⌜ (length (now (l .exit)) ≡ 300)
+        × ((length (now (a .exit)) ≡ 300) × (length (now (b .exit)) ≡ 300)) ⌝ }
 {
     let mut k = 0;
     while k < 300 {
@@ -184,13 +185,18 @@ fn generate(l: &mut [i32; 300], a: &mut [i32; 300], b: &mut [i32; 300])
     }
 }
 
-// The reading is the swatch at place 150.
-fn generated_cases(l: &[i32], a: &[i32], b: &[i32]) {
-    let reading = Reading {
+// The swatch at place 150 of the generated ones, as a reading.
+fn place150() -> Reading {
+    Reading {
         l: 49.995,
         a: 5.0,
         b: -10.0,
-    };
+    }
+}
+
+// The generated deck at several tolerances and weights.
+fn generated_cases(l: &[i32], a: &[i32], b: &[i32]) {
+    let reading = place150();
     let heavy = Weights {
         l: 2.0,
         c: 1.0,
@@ -228,6 +234,11 @@ fn generated_cases(l: &[i32], a: &[i32], b: &[i32]) {
         100.0,
         &mut places,
     );
+}
+
+// As many places as the list has room for, and one more.
+fn room_cases(l: &[i32], a: &[i32], b: &[i32]) {
+    let reading = place150();
     let mut exact = [65535; 18];
     case(
         b"tolerance 12, room for 18: ",
@@ -261,4 +272,5 @@ fn main() {
     empty_case(&l);
     generate(&mut l, &mut a, &mut b);
     generated_cases(&l, &a, &b);
+    room_cases(&l, &a, &b);
 }

@@ -8,10 +8,10 @@ use native.Mathlib.Omega.{arith}
 use borrow.Author.Tests.{le-ltb}
 use lib.IntN.{pos}
 use lib.Signed.{ltZ}
-use Rattle.fixed_point.specs.Samples.{Sample}
+use Rattle.sample.specs.Sample.{Sample}
 use Rattle.hue_difference.specs.HueDifference.{crossOf, secondLater, firstLater, noHueOf, hueNegative, hueSize, hueDifferenceOf}
 use Rattle.hue_difference.proofs.HueDifferenceLaws.{far-is}
-use Rattle.difference.specs.Pair.{Point, pairFar, pairHue}
+use Rattle.difference.specs.Pair.{Point, pairFar, pairHueDifference}
 
 -- far is decided exactly, from the samples' own a and b and from no rounded hue: sample 2 is later and X < 0, or sample 1 is later and X > 0
 pub far-exact : (s t : Sample)
@@ -38,7 +38,8 @@ negative-below none negative n h = rw (h .0, h .1) (some n (h .2))
 
 -- H is negative exactly when step 7 gives it a hue, the minus sign, and a size that is not 0: never |H| for H
 pub hue-part-sign : (s t : Sample) (p q : Point)
-    → (ltZ (pairHue s t p q) (pos 0) ≡ true)
-    ↔ ((noHueOf (s .a) (s .b) (t .a) (t .b) ≡ false) × (hueNegative (s .a) (s .b) (t .a) (t .b) ≡ true) × (0 < hueSize (p .a) (p .b) (p .c) (q .a) (q .b) (q .c)))
-unfolding pairHue
+    → (ltZ (pairHueDifference s t p q) (pos 0) ≡ true)
+    ↔ ((noHueOf (s .a) (s .b) (t .a) (t .b) ≡ false) × (hueNegative (s .a) (s .b) (t .a) (t .b) ≡ true) ×
+    (0 < hueSize (p .a) (p .b) (p .c) (q .a) (q .b) (q .c)))
+unfolding pairHueDifference
 hue-part-sign s t p q = (below _ _ _, negative-below _ _ _)

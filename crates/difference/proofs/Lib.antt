@@ -5,7 +5,6 @@ mod Points
 pub mod Symmetry
 pub mod Zero
 pub mod LightnessBound
-pub mod ResultBounds
 pub mod FigureBounds
 pub mod HueSide
 pub mod Examples

@@ -1,4 +1,5 @@
--- CIEDE2000 is never less than its lightness part, so that a difference within a tolerance bounds the difference of the lightnesses: what a search of a deck that
+-- CIEDE2000 is never less than its lightness part, so that a difference within a tolerance bounds the difference of the
+-- lightnesses: what a search of a deck that
 -- is sorted by lightness relies on. On the way: what is under the root of step 12 is never negative.
 -- Assumes nothing.
 use mathlib.Core.Path.{_≡_, refl, sym, ap, _∙_}
@@ -9,17 +10,18 @@ use native.Mathlib.Omega.{arith}
 use lib.IntN.{ℤ, pos, negsuc, natAbs, _-ℤ_, _*ℤ_}
 use lib.Signed.{quotZ}
 use Rattle.isqrt.proofs.RootLaws.{root-largest}
-use Rattle.signed.specs.Value.{int}
+use Rattle.signed.specs.Inner.{int}
 use Rattle.signed.proofs.SignedLaws.{natAbs-mul, natAbs-quot}
 use Rattle.signed.proofs.Results.{apart-down}
-use Rattle.fixed_point.specs.Samples.{Sample, SampleIn, WeightsIn}
-use Rattle.fixed_point.specs.declared.FixedWeights.{FixedWeights}
+use Rattle.sample.specs.Sample.{Sample}
+use Rattle.sample.specs.Inner.{SampleIn, WeightsIn}
+use Rattle.sample.specs.declared.FixedWeights.{FixedWeights}
 use Rattle.chroma.proofs.ChromaLaws.{ratio-le}
 use Rattle.weighting.specs.Weighting.{lightnessWeight}
 use Rattle.weighting.proofs.WeightingLaws.{lightness-weight-ge, lightness-weight-le, rotation-le}
 use Rattle.difference.specs.Parts.{Parts, weighted, partOf, partsOf, squared, sumOf, combined}
 use Rattle.difference.specs.Pair.{termsOf, lightnessDifference}
-use Rattle.difference.specs.Differences.{terms00Of, parts00Of, figuresFrom, figuresOf, ciede2000Of}
+use Rattle.difference.specs.Ciede2000.{terms00Of, parts00Of, figuresFrom, figuresOf, ciede2000Of}
 
 -- ---- what is under the root
 

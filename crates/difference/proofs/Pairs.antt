@@ -1,34 +1,33 @@
 -- What the hue functions say of a pair of prepared samples and their points. Assumes nothing.
 use mathlib.Core.Path.{_≡_, refl, sym, ap, _∙_, subst}
-use mathlib.Core.Bool.{Bool, true, false, _&&_, _||_, not}
+use mathlib.Core.Bool.{Bool, true, false, _||_}
 use Prim.Native.Nat.{ℕ, _+_, _≤_}
 use native.Mathlib.Nat.{le-trans}
 use lib.Dec.{eqb, lit≤}
-use lib.IntN.{pos, natAbs, _-ℤ_}
-use Rattle.signed.specs.Value.{int}
+use lib.IntN.{pos, _-ℤ_}
+use Rattle.signed.specs.Inner.{int}
 use Rattle.signed.specs.declared.Int.{Int}
-use Rattle.hue.specs.Hue.{grey, quadrantOf}
+use Rattle.hue.specs.Hue.{grey}
 use Rattle.hue.proofs.HueLaws.{quadrant-grey}
-use Rattle.hue_difference.specs.HueDifference.{crossOf, oppositeOf, noHueOf, hueNegative, hueSize, hueDifferenceOf, meanHueOf}
-use Rattle.hue_difference.specs.Facts.{Primed, SideIs}
+use Rattle.hue_difference.specs.HueDifference.{noHueOf, hueSize, hueDifferenceOf, meanHueOf}
+use Rattle.hue_difference.specs.Inner.{Primed, SideIs}
 use Rattle.hue_difference.specs.declared.Side.{Side}
-use Rattle.fixed_point.specs.declared.FixedWeights.{FixedWeights}
+use Rattle.sample.specs.declared.FixedWeights.{FixedWeights}
 use Rattle.chroma.specs.Chroma.{ratioOf}
 use Rattle.chroma.proofs.ChromaLaws.{ratio-le}
 use Rattle.weighting.specs.Weighting.{hueTerm}
-use Rattle.weighting.proofs.WeightingLaws.{lightness-weight-ge, lightness-weight-le, chroma-weight-ge, chroma-weight-le, hue-weight-ge, hue-weight-le, hue-term-le, rotation-le}
+use Rattle.weighting.proofs.WeightingLaws.{lightness-weight-ge, lightness-weight-le, chroma-weight-ge, chroma-weight-le}
+use Rattle.weighting.proofs.WeightingLaws.{hue-weight-ge, hue-weight-le, hue-term-le, rotation-le}
 use Rattle.difference.specs.Parts.{partsOf, combined}
-use Rattle.difference.specs.Pair.{Point, pairRatio, pairFar, pairHue, pairMeanHue, pointHue, termsOf, lightnessDifference, chromaDifference}
-use Rattle.difference.specs.Differences.{figuresFrom, terms00Of, parts00Of}
-use Rattle.difference.specs.Carried.{preparedSample, pointOf, partedOf, workedFigures, Ready, Bounded, Coloured, HueFigures}
-use Rattle.difference.specs.declared.Terms.{Terms}
-use Rattle.difference.specs.declared.Hues.{Hues}
-use Rattle.difference.specs.declared.Parted.{Parted}
-use Rattle.difference.specs.declared.Prepared.{Prepared}
-use Rattle.difference.specs.declared.Coordinates.{Coordinates}
-
-pub primed-of : {p : Coordinates} → Bounded p → Primed (p .a .n) (p .b .n) (p .chroma)
-primed-of h = record { a-le = h .a; b-le = h .b; c-le = h .chroma; a-chroma = h .a-chroma; b-chroma = h .b-chroma }
+use Rattle.difference.specs.Pair.{Point, pairRatio, pairFar, pairHueDifference, pairMeanHue, pointHue, termsOf}
+use Rattle.difference.specs.Pair.{lightnessDifference, chromaDifference}
+use Rattle.difference.specs.Ciede2000.{figuresFrom, terms00Of, parts00Of}
+use Rattle.difference.specs.Inner.{preparedSample, pointOf, signedParts, intermediateFigures, Ready, CoordinatesIn, Coloured, HueFigures}
+use Rattle.difference.specs.declared.ciede2000.Terms.{Terms}
+use Rattle.difference.specs.declared.ciede2000.Hues.{Hues}
+use Rattle.difference.specs.declared.parts.SignedParts.{SignedParts}
+use Rattle.difference.specs.declared.prepared.Prepared.{Prepared}
+use Rattle.difference.specs.declared.prepared.Coordinates.{Coordinates}
 
 -- the step 6 and 7 flags of a pair
 abbrev pub Sides : Prepared → Prepared → Side → Type 0
@@ -51,18 +50,19 @@ both-coloured s t p q d side u v e =
     let g = or-none _ _ _ (sym (side .none-is) ∙ e) in
     (u .coloured (g .0), v .coloured (g .1))
 
-pub pair-hue-is : (s t : Prepared) (p q : Coordinates) {x y : Point} (d : Side) → Sides s t d → pointOf p ≡ x → pointOf q ≡ y → (r : Int)
+pub pair-hue-difference-is : (s t : Prepared) (p q : Coordinates) {x y : Point} (d : Side) → Sides s t d → pointOf p ≡ x → pointOf q ≡ y → (r : Int)
     → int r ≡ hueDifferenceOf (d .none) (d .negative) (hueSize (int (p .a)) (int (p .b)) (p .chroma) (int (q .a)) (int (q .b)) (q .chroma))
-    → int r ≡ pairHue (preparedSample s) (preparedSample t) x y
-unfolding preparedSample pointOf pairHue
-pair-hue-is s t p q d side u v r e =
+    → int r ≡ pairHueDifference (preparedSample s) (preparedSample t) x y
+unfolding preparedSample pointOf pairHueDifference
+pair-hue-difference-is s t p q d side u v r e =
     e ∙ (λ i. hueDifferenceOf (side .none-is i) (side .negative-is i) (hueSize (u i .a) (u i .b) (u i .c) (v i .a) (v i .b) (v i .c)))
 
 -- the quadrant 4 is grey
 grey-is : (s : Prepared) → Ready s → eqb (s .quadrant) 4 ≡ grey (int (s .a)) (int (s .b))
 grey-is s r = ap (λ (n : ℕ). eqb n 4) (r .quadrant) ∙ sym (quadrant-grey _ _)
 
-pub pair-mean-is : (s t : Prepared) (x y : Point) → Ready s → Ready t → (g far : Bool) (h1 h2 r : ℕ) → g ≡ (eqb (s .quadrant) 4 || eqb (t .quadrant) 4)
+pub pair-mean-is : (s t : Prepared) (x y : Point) → Ready s → Ready t → (g far : Bool) (h1 h2 r : ℕ) → g ≡
+    (eqb (s .quadrant) 4 || eqb (t .quadrant) 4)
     → far ≡ pairFar (preparedSample s) (preparedSample t) → h1 ≡ pointHue x → h2 ≡ pointHue y → r ≡ meanHueOf g far h1 h2
     → r ≡ pairMeanHue (preparedSample s) (preparedSample t) x y
 unfolding preparedSample pairMeanHue
@@ -88,16 +88,19 @@ terms-in l1 l2 sum mean p h k s =
     })
 
 -- ---- the figures from the results of the calls
-pub worked-is : (w : FixedWeights) (s t : Prepared) (p q : Coordinates) {z : ℕ} {m : Hues} {e : Terms} (dl dc : Int) (parts : Parted) {r : ℕ} → Ready s → Ready t
+pub intermediates-are : (w : FixedWeights) (s t : Prepared) (p q : Coordinates) {z : ℕ} {m : Hues} {e : Terms} (dl dc : Int)
+    (parts : SignedParts) {r : ℕ} → Ready s → Ready t
     → z ≡ pairRatio (preparedSample s) (preparedSample t) → HueFigures (preparedSample s) (preparedSample t) (pointOf p) (pointOf q) m
     → e ≡ termsOf (s .l) (t .l) (p .chroma + q .chroma) (m .mean) → int dl ≡ pos (t .l) -ℤ pos (s .l) → int dc ≡ pos (q .chroma) -ℤ pos (p .chroma)
-    → partedOf parts ≡ partsOf (w .l) (w .c) (w .h) (int dl) (int dc) (int (m .hue)) (e .sl) (e .sc) (e .sh) → r ≡ combined (partedOf parts) (e .r)
-    → workedFigures (record { c1 = s .chroma; p1 = p; c2 = t .chroma; p2 = q; z = z; hues = m; terms = e; parts = parts; difference = r })
+    → signedParts parts ≡ partsOf w (int dl) (int dc) (int (m .difference)) (e .sl) (e .sc) (e .sh) → r ≡ combined (signedParts parts) (e .r)
+    → intermediateFigures (record { c1 = s .chroma; p1 = p; c2 = t .chroma; p2 = q; z = z; hues = m; terms = e; parts = parts; difference = r })
     ≡ figuresFrom w (preparedSample s) (preparedSample t) (pointOf p) (pointOf q)
-unfolding workedFigures figuresFrom terms00Of parts00Of lightnessDifference chromaDifference preparedSample pointOf
-worked-is w s t p q dl dc parts u v z-is h e-is dl-is dc-is parts-is r-is =
-    let terms : _ ≡ termsOf (s .l) (t .l) (p .chroma + q .chroma) (pairMeanHue (preparedSample s) (preparedSample t) (pointOf p) (pointOf q)) = e-is ∙ ap (λ (n : ℕ). termsOf (s .l) (t .l) (p .chroma + q .chroma) n) (h .mean) in
-    let parted = parts-is ∙ (λ i. partsOf (w .l) (w .c) (w .h) (dl-is i) (dc-is i) (h .hue i) (terms i .sl) (terms i .sc) (terms i .sh)) in
+unfolding intermediateFigures figuresFrom terms00Of parts00Of lightnessDifference chromaDifference preparedSample pointOf
+intermediates-are w s t p q dl dc parts u v z-is h e-is dl-is dc-is parts-is r-is =
+    let terms : _ ≡ termsOf (s .l) (t .l) (p .chroma + q .chroma)
+    (pairMeanHue (preparedSample s) (preparedSample t) (pointOf p) (pointOf q)) = e-is ∙ ap
+    (λ (n : ℕ). termsOf (s .l) (t .l) (p .chroma + q .chroma) n) (h .mean) in
+    let parts-are = parts-is ∙ (λ i. partsOf w (dl-is i) (dc-is i) (h .difference i) (terms i .sl) (terms i .sc) (terms i .sh)) in
     λ i. record {
       c1 = u .chroma i;
       p1 = pointOf p;
@@ -107,9 +110,9 @@ worked-is w s t p q dl dc parts u v z-is h e-is dl-is dc-is parts-is r-is =
       h2 = h .h2 i;
       z = z-is i;
       far = h .far i;
-      hue = h .hue i;
+      hueDifference = h .difference i;
       mean = h .mean i;
       terms = terms i;
-      parts = parted i;
-      difference = (r-is ∙ (λ j. combined (parted j) (terms j .r))) i;
+      parts = parts-are i;
+      difference = (r-is ∙ (λ j. combined (parts-are j) (terms j .r))) i;
     }

@@ -1,10 +1,10 @@
 -- Sizes: an Int's from its value, of squares, and of quotients. Assumes nothing.
-use mathlib.Core.Path.{_≡_, subst}
+use mathlib.Core.Path.{subst}
 use Prim.Native.Nat.{ℕ, _+_, _*_, _/_, _≤_, _<_}
 use native.Mathlib.Nat.{lt-of-lt-of-le, mul-le-mul-left, mul-le-mul, div-lt-iff-lt-mul}
 use native.Mathlib.Omega.{arith}
 use lib.IntN.{natAbs}
-use Rattle.signed.specs.Value.{int}
+use Rattle.signed.specs.Inner.{int}
 use Rattle.signed.specs.declared.Int.{Int}
 use Rattle.signed.proofs.SignedLaws.{int-size}
 

@@ -1,4 +1,5 @@
--- The exchange of the samples. CIEDE2000 and CIE76 are the same from sample 2 to sample 1, for all samples and all weights; of CIEDE2000's figures the signed
+-- The exchange of the samples. CIEDE2000 and CIE76 are the same from sample 2 to sample 1, for all samples and all weights;
+-- of CIEDE2000's figures the signed
 -- ones change their sign, those of one sample change places, and all others stay. CIE94 has no such law: its weights are those of sample 1's chroma.
 -- Assumes nothing.
 use mathlib.Core.Path.{_≡_, sym, ap, _∙_}
@@ -9,16 +10,18 @@ use lib.IntN.{ℤ, pos, negℤ, natAbs, _-ℤ_, _*ℤ_, negℤ-negℤ}
 use lib.Signed.{quotZ}
 use Rattle.isqrt.specs.Root.{rootOf}
 use Rattle.signed.proofs.SignedLaws.{natAbs-neg, neg-mul, mul-neg, neg-sub, quot-neg}
-use Rattle.fixed_point.specs.Samples.{Sample}
-use Rattle.fixed_point.specs.declared.FixedWeights.{FixedWeights}
+use Rattle.sample.specs.Sample.{Sample}
+use Rattle.sample.specs.declared.FixedWeights.{FixedWeights}
 use Rattle.chroma.specs.Chroma.{ratioOf}
 use Rattle.hue.specs.Hue.{grey}
 use Rattle.hue_difference.specs.HueDifference.{meanHueOf}
 use Rattle.hue_difference.proofs.HueDifferenceLaws.{far-swap, hue-difference-swap, mean-hue-swap}
 use Rattle.weighting.proofs.WeightingLaws.{lightness-weight-comm}
 use Rattle.difference.specs.Parts.{Parts, weighted, partOf, partsOf, squared, sumOf, combined}
-use Rattle.difference.specs.Pair.{Point, sampleChroma, pairRatio, primedOf, pointHue, pairFar, pairHue, pairMeanHue, termsOf, lightnessDifference, chromaDifference}
-use Rattle.difference.specs.Differences.{Figures, cie76Of, parts00Of, terms00Of, figuresFrom, figuresOf, ciede2000Of}
+use Rattle.difference.specs.Pair.{Point, sampleChroma, pairRatio, primedOf, pointHue, pairFar, pairHueDifference}
+use Rattle.difference.specs.Pair.{pairMeanHue, termsOf, lightnessDifference, chromaDifference}
+use Rattle.difference.specs.Ciede2000.{Figures, parts00Of, terms00Of, figuresFrom, figuresOf, ciede2000Of}
+use Rattle.difference.specs.Cie76.{cie76Of}
 
 -- ---- step 12 of the opposite differences
 
@@ -30,13 +33,13 @@ pub part-negated : (d : ℤ) (scale w : ℕ) → partOf (negℤ d) scale w ≡ n
 unfolding partOf
 part-negated d scale w = ap (λ x. quotZ x (pos w)) (neg-mul d (pos scale)) ∙ quot-neg (d *ℤ pos scale) w
 
-pub parts-negated : (kl kc kh : ℕ) (dl dc dh : ℤ) (sl sc sh : ℕ)
-    → partsOf kl kc kh (negℤ dl) (negℤ dc) (negℤ dh) sl sc sh ≡ negated (partsOf kl kc kh dl dc dh sl sc sh)
+pub parts-negated : (k : FixedWeights) (dl dc dh : ℤ) (sl sc sh : ℕ)
+    → partsOf k (negℤ dl) (negℤ dc) (negℤ dh) sl sc sh ≡ negated (partsOf k dl dc dh sl sc sh)
 unfolding partsOf negated
-parts-negated kl kc kh dl dc dh sl sc sh = λ i. record {
-  l = part-negated dl 100000000000 (weighted kl sl) i;
-  c = part-negated dc 100000000 (weighted kc sc) i;
-  h = part-negated dh 100000000 (weighted kh sh) i;
+parts-negated k dl dc dh sl sc sh = λ i. record {
+  l = part-negated dl 100000000000 (weighted (k .l) sl) i;
+  c = part-negated dc 100000000 (weighted (k .c) sc) i;
+  h = part-negated dh 100000000 (weighted (k .h) sh) i;
 }
 
 pub squared-negated : (x : ℤ) → squared (negℤ x) ≡ squared x
@@ -85,8 +88,8 @@ module _ (s t : Sample) where
     chroma-exchanged = sym (neg-sub (pos (q .c)) (pos (p .c)))
 
     -- and H
-    pub hue-exchanged : pairHue t s q p ≡ negℤ (pairHue s t p q)
-    unfolding pairHue
+    pub hue-exchanged : pairHueDifference t s q p ≡ negℤ (pairHueDifference s t p q)
+    unfolding pairHueDifference
     hue-exchanged = hue-difference-swap (s .a) (s .b) (t .a) (t .b) (p .a) (p .b) (q .a) (q .b) (p .c) (q .c)
 
     -- the mean hue stays
@@ -113,15 +116,18 @@ module _ (s t : Sample) where
       from-parts : parts00Of w t s q p (terms00Of t s q p) ≡ negated (parts00Of w s t p q (terms00Of s t p q))
       unfolding parts00Of
       from-parts =
-          (λ i. partsOf (w .l) (w .c) (w .h) (lightness-exchanged i) (chroma-exchanged i) (hue-exchanged i) (terms-exchanged i .sl) (terms-exchanged i .sc) (terms-exchanged i .sh))
-          ∙ parts-negated (w .l) (w .c) (w .h) (lightnessDifference s t) (chromaDifference p q) (pairHue s t p q) _ _ _
+          (λ i. partsOf w (lightness-exchanged i) (chroma-exchanged i) (hue-exchanged i) (terms-exchanged i .sl)
+          (terms-exchanged i .sc) (terms-exchanged i .sh))
+          ∙ parts-negated w (lightnessDifference s t) (chromaDifference p q) (pairHueDifference s t p q) _ _ _
 
-      from-difference : combined (parts00Of w t s q p (terms00Of t s q p)) (terms00Of t s q p .r) ≡ combined (parts00Of w s t p q (terms00Of s t p q)) (terms00Of s t p q .r)
+      from-difference : combined (parts00Of w t s q p (terms00Of t s q p)) (terms00Of t s q p .r) ≡ combined
+          (parts00Of w s t p q (terms00Of s t p q)) (terms00Of s t p q .r)
       from-difference = (λ i. combined (from-parts i) (terms-exchanged i .r)) ∙ combined-negated _ _
 
 -- ---- the whole working
 
--- the figures of the samples in the other order: H, l, c and h have the other sign, C, the point and the hue of a sample change places, and Z, far, the mean hue,
+-- the figures of the samples in the other order: H, l, c and h have the other sign, C, the point and the hue of a sample
+-- change places, and Z, far, the mean hue,
 -- T, SL, SC, SH, R and the difference are the same
 unfoldable pub exchanged : Figures → Figures
 exchanged f =
@@ -134,7 +140,7 @@ exchanged f =
       h2 = f .h1;
       z = f .z;
       far = f .far;
-      hue = negℤ (f .hue);
+      hueDifference = negℤ (f .hueDifference);
       mean = f .mean;
       terms = f .terms;
       parts = negated (f .parts);
@@ -152,7 +158,7 @@ from-exchanged w s t p q = λ i. record {
   h2 = pointHue p;
   z = ratio-exchanged s t i;
   far = far-exchanged s t i;
-  hue = hue-exchanged s t p q i;
+  hueDifference = hue-exchanged s t p q i;
   mean = mean-exchanged s t p q i;
   terms = terms-exchanged s t p q i;
   parts = from-parts s t p q w i;

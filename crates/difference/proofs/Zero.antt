@@ -8,12 +8,14 @@ use native.Mathlib.Omega.{arith}
 use lib.IntN.{pos, +ℤ-invr}
 use Rattle.isqrt.specs.Root.{rootOf}
 use Rattle.isqrt.proofs.RootLaws.{root-le}
-use Rattle.fixed_point.specs.Samples.{Sample}
-use Rattle.fixed_point.specs.declared.FixedWeights.{FixedWeights}
+use Rattle.sample.specs.Sample.{Sample}
+use Rattle.sample.specs.declared.FixedWeights.{FixedWeights}
 use Rattle.hue_difference.proofs.HueDifferenceLaws.{hue-difference-self}
 use Rattle.difference.specs.Parts.{Parts, weighted, partOf, partsOf, squared, sumOf, combined}
-use Rattle.difference.specs.Pair.{Point, pairRatio, primedOf, plainOf, pairHue, lightnessDifference, chromaDifference}
-use Rattle.difference.specs.Differences.{cie76Of, parts94Of, cie94Of, parts00Of, figuresFrom, figuresOf, ciede2000Of}
+use Rattle.difference.specs.Pair.{Point, pairRatio, primedOf, plainOf, pairHueDifference, lightnessDifference, chromaDifference}
+use Rattle.difference.specs.Cie76.{cie76Of}
+use Rattle.difference.specs.Cie94.{parts94Of, cie94Of}
+use Rattle.difference.specs.Ciede2000.{parts00Of, figuresFrom, figuresOf, ciede2000Of}
 
 -- ---- no differences
 
@@ -26,8 +28,8 @@ unfolding chromaDifference
 no-chroma p = +ℤ-invr (pos (p .c))
 
 -- whatever the points are: H of equal samples is 0 by step 7
-pub no-hue : (s : Sample) (p q : Point) → pairHue s s p q ≡ pos 0
-unfolding pairHue
+pub no-hue : (s : Sample) (p q : Point) → pairHueDifference s s p q ≡ pos 0
+unfolding pairHueDifference
 no-hue s p q = hue-difference-self (s .a) (s .b) _ _
 
 -- ---- come to nothing
@@ -39,12 +41,12 @@ part-zero : (scale w : ℕ) → partOf (pos 0) scale w ≡ pos 0
 unfolding partOf
 part-zero scale w = rw (zero-mul scale, zero-div w)
 
-pub parts-zero : (kl kc kh sl sc sh : ℕ) → partsOf kl kc kh (pos 0) (pos 0) (pos 0) sl sc sh ≡ noParts
+pub parts-zero : (k : FixedWeights) (sl sc sh : ℕ) → partsOf k (pos 0) (pos 0) (pos 0) sl sc sh ≡ noParts
 unfolding partsOf noParts
-parts-zero kl kc kh sl sc sh = λ i. record {
-  l = part-zero 100000000000 (weighted kl sl) i;
-  c = part-zero 100000000 (weighted kc sc) i;
-  h = part-zero 100000000 (weighted kh sh) i;
+parts-zero k sl sc sh = λ i. record {
+  l = part-zero 100000000000 (weighted (k .l) sl) i;
+  c = part-zero 100000000 (weighted (k .c) sc) i;
+  h = part-zero 100000000 (weighted (k .h) sh) i;
 }
 
 root-zero : rootOf 0 ≡ 0
@@ -58,10 +60,10 @@ combined-zero r = rw (zero-mul r) root-zero
 
 module _ (w : FixedWeights) (s : Sample) where
   from-zero : (p : Point) (sl sc sh : ℕ)
-      → partsOf (w .l) (w .c) (w .h) (lightnessDifference s s) (chromaDifference p p) (pairHue s s p p) sl sc sh ≡ noParts
+      → partsOf w (lightnessDifference s s) (chromaDifference p p) (pairHueDifference s s p p) sl sc sh ≡ noParts
   from-zero p sl sc sh =
-      (λ i. partsOf (w .l) (w .c) (w .h) (no-lightness s i) (no-chroma p i) (no-hue s p p i) sl sc sh) ∙
-      parts-zero (w .l) (w .c) (w .h) sl sc sh
+      (λ i. partsOf w (no-lightness s i) (no-chroma p i) (no-hue s p p i) sl sc sh) ∙
+      parts-zero w sl sc sh
 
   -- the parts l, c and h of CIEDE2000 of equal samples are 0
   pub parts-equal : figuresOf w s s .parts ≡ noParts

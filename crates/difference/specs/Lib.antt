@@ -1,4 +1,8 @@
+-- What the contracts of `difference` cite.
 pub mod Parts
 pub mod Pair
-pub mod Differences
-pub mod Carried
+pub mod Cie76
+pub mod Cie94
+pub mod Ciede2000
+pub mod Verdict
+pub mod Inner

@@ -1,13 +1,13 @@
--- Steps 1 to 11 of paper 01's working put together for a pair of samples; each step stands in the crate named in its comment.
+-- Steps 1 to 11 put together for a pair of samples; each step stands in the crate named in its comment. Assumes nothing.
 use Prim.Native.Nat.{ℕ, _+_}
 use mathlib.Core.Bool.{Bool, _||_}
 use lib.IntN.{ℤ, pos, _-ℤ_}
-use Rattle.fixed_point.specs.Samples.{Sample}
-use Rattle.chroma.specs.Chroma.{chromaOf, ratioOf, primedA, primedB, primedChroma}
+use Rattle.sample.specs.Sample.{Sample}
+use Rattle.chroma.specs.Chroma.{chromaOf, ratioOf, primedA, inTenMillionths, primedChroma}
 use Rattle.hue.specs.Hue.{grey, hueOf}
 use Rattle.hue_difference.specs.HueDifference.{farOf, noHueOf, hueNegative, hueSize, hueDifferenceOf, meanHueOf}
 use Rattle.weighting.specs.Weighting.{hueTerm, lightnessWeight, chromaWeight, hueWeight, rotation}
-use Rattle.difference.specs.declared.Terms.{Terms}
+use Rattle.difference.specs.declared.ciede2000.Terms.{Terms}
 
 -- step 1 (chroma): C
 unfoldable pub sampleChroma : Sample → ℕ
@@ -25,11 +25,11 @@ pub record Point : Type 0 where
 
 -- step 3 (chroma): a', b' and C' of a sample, z being Z(C1 + C2)
 unfoldable pub primedOf : ℕ → Sample → Point
-primedOf z s = record { a = primedA (s .a) z; b = primedB (s .b); c = primedChroma (primedA (s .a) z) (primedB (s .b)) }
+primedOf z s = record { a = primedA (s .a) z; b = inTenMillionths (s .b); c = primedChroma (primedA (s .a) z) (inTenMillionths (s .b)) }
 
 -- for CIE94: 1000 a, 1000 b and C
 unfoldable pub plainOf : Sample → Point
-plainOf s = record { a = primedB (s .a); b = primedB (s .b); c = sampleChroma s }
+plainOf s = record { a = inTenMillionths (s .a); b = inTenMillionths (s .b); c = sampleChroma s }
 
 -- step 5 (hue)
 unfoldable pub pointHue : Point → ℕ
@@ -39,9 +39,9 @@ pointHue p = hueOf (p .a) (p .b) (p .c)
 unfoldable pub pairFar : Sample → Sample → Bool
 pairFar s t = farOf (s .a) (s .b) (t .a) (t .b)
 
--- step 7 (hue_difference): H
-unfoldable pub pairHue : Sample → Sample → Point → Point → ℤ
-pairHue s t p q =
+-- step 7 (hue_difference): the hue difference, 01's H
+unfoldable pub pairHueDifference : Sample → Sample → Point → Point → ℤ
+pairHueDifference s t p q =
     hueDifferenceOf (noHueOf (s .a) (s .b) (t .a) (t .b)) (hueNegative (s .a) (s .b) (t .a) (t .b))
     (hueSize (p .a) (p .b) (p .c) (q .a) (q .b) (q .c))
 

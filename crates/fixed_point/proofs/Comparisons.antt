@@ -1,16 +1,10 @@
--- What a program's comparisons of floats say: only a finite number lies between the infinities, and the order of two finite numbers is that of their fractions.
+-- What a program's comparisons of floats say: only a finite number lies between the infinities, and the order of two finite
+-- numbers is that of their fractions.
 -- Assumes nothing.
-use mathlib.Core.Path.{_≡_, refl, sym, ap, _∙_, subst}
-use Prim.Native.Nat.{ℕ, zero, suc, _+_, _*_, _≤_, _<_}
-use native.Mathlib.Nat.{le-of-eq, le-of-lt}
-use native.Mathlib.Omega.{arith}
-use mathlib.Core.Logic.{_⊎_, inl, inr}
-use mathlib.Core.Bool.{Bool, true, false, not, _&&_, _||_, true≢false, false≢true}
-use lib.IntN.{ℤ, pos}
-use lib.Dec.{T, ltb, eqb, ltb→lt, eqb→eq}
-use lib.Ieee.{Float, nan, inf, fin, up, down, lt, le}
+use mathlib.Core.Path.{_≡_, refl}
+use mathlib.Core.Bool.{true, false, not, false≢true}
+use lib.Ieee.{Float, nan, inf, fin, lt}
 use lib.Ieee.Scale.{finite}
-use lib.Ieee.Fits.{and-l, and-r}
 
 pub between-infinities : (x : Float) → lt (inf true) x ≡ true → lt x (inf false) ≡ true → false ≡ not (finite x)
 unfolding lt

@@ -1,14 +1,15 @@
--- A finite f32 of at most 128 in size, times 20,000, is exact in f64: 24 binary digits and 10 more fit 53, and the exponent is far from both ends. Assumes nothing.
-use mathlib.Core.Path.{_≡_, refl, sym, ap, _∙_, subst}
-use Prim.Native.Nat.{ℕ, zero, suc, _+_, _-_, _*_, _%_, _^_, _≤_, _<_}
-use native.Mathlib.Nat.{le-of-lt, le-trans, le-of-eq, lt-of-lt-of-le, lt-of-not-le, not-le-of-lt, zero-lt-suc, mul-assoc, mul-comm, mul-left-comm, mul-one, mul-pos}
+-- A finite f32 of at most 128 in size, times 20,000, is exact in f64: 24 binary digits and 10 more fit 53, and the exponent
+-- is far from both ends. Assumes nothing.
+use mathlib.Core.Path.{_≡_, sym, ap, _∙_, subst}
+use Prim.Native.Nat.{ℕ, suc, _+_, _-_, _*_, _%_, _^_, _≤_, _<_}
+use native.Mathlib.Nat.{le-trans, lt-of-lt-of-le, lt-of-not-le, not-le-of-lt, zero-lt-suc, mul-assoc, mul-comm, mul-left-comm, mul-one}
 use native.Mathlib.Decide.{decLe}
 use native.Mathlib.Omega.{arith}
-use mathlib.Core.Bool.{Bool, true, false, _&&_}
+use mathlib.Core.Bool.{Bool, false, _&&_}
 use lib.IntN.{ℤ, pos, negsuc}
-use lib.Dec.{T, eqb, leb, ltb, leb→le, ltb→lt, lit<, lit≤}
+use lib.Dec.{T, eqb, leb, ltb, leb→le, ltb→lt, lit≤}
 use lib.Pow.{pow-add, pow-pos, pow-lt, pow-mono, shl-lt}
-use lib.Ieee.{Float, fin, binary32, binary64, prec, emax, low, up, down, round, mul, fits}
+use lib.Ieee.{fin, binary32, binary64, up, down, round, mul, fits}
 use lib.Ieee.Digits.{back}
 use lib.Ieee.Fits.{and-l, and-r}
 use lib.Ieee.Exact.{HasValue, round-exact}
@@ -36,7 +37,8 @@ under-shift m a h = subst (λ (x : ℕ). x < 2 ^ 22) (simp (mul-assoc, mul-comm,
 -- a whole exponent
 exact-up : (m k : ℕ) → m < 2 ^ 24 → m * 2 ^ k ≤ 128 → HasValue (round binary64 false (m * 2 ^ k * 20000) 1) false (m * 2 ^ k * 20000) 1
 exact-up m k small under =
-    round-exact binary64 false (m * 2 ^ k * 20000) 1 (m * 20000) (k + 1074) (zero-lt-suc 0) (lt-of-lt-of-le (digits m small) (pow-mono {i = 39} {j = 53} (lit≤ tt)))
+    round-exact binary64 false (m * 2 ^ k * 20000) 1 (m * 20000) (k + 1074) (zero-lt-suc 0)
+    (lt-of-lt-of-le (digits m small) (pow-mono {i = 39} {j = 53} (lit≤ tt)))
     (subst (λ (x : ℕ). x < 2 ^ 2098) (mul-assoc (m * 20000) (2 ^ k) (2 ^ 1074) ∙ ap (λ (x : ℕ). m * 20000 * x) (sym (pow-add 2 k 1074)))
     (lt-of-lt-of-le (shl-lt 22 1074 (under-shift m (2 ^ k) under)) (pow-mono {i = 1096} {j = 2098} (lit≤ tt))))
     (regroup m (2 ^ k) (2 ^ 1074) ∙ ap (λ (x : ℕ). m * 20000 * x * 1) (sym (pow-add 2 k 1074)))
@@ -59,7 +61,8 @@ exact-down m k small deep =
 few-digits : (s : Bool) (m : ℕ) (e : ℤ) → T (fits binary32 (fin s (suc m) e)) → suc m < 2 ^ 24
 unfolding fits
 few-digits s m e t =
-    ltb→lt (suc m) (2 ^ 24) (and-r (eqb (suc m % 2) 1) (ltb (suc m) (2 ^ 24)) (and-l (eqb (suc m % 2) 1 && ltb (suc m) (2 ^ 24)) (leb (down e) (2 ^ 149))
+    ltb→lt (suc m) (2 ^ 24) (and-r (eqb (suc m % 2) 1) (ltb (suc m) (2 ^ 24))
+    (and-l (eqb (suc m % 2) 1 && ltb (suc m) (2 ^ 24)) (leb (down e) (2 ^ 149))
     (and-l (eqb (suc m % 2) 1 && ltb (suc m) (2 ^ 24) && leb (down e) (2 ^ 149)) (ltb (suc m * up e) (2 ^ 128 * down e)) t)))
 
 not-deep : (s : Bool) (m : ℕ) (e : ℤ) → T (fits binary32 (fin s (suc m) e)) → down e ≤ 2 ^ 149

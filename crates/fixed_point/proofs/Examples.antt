@@ -1,14 +1,10 @@
 -- Floats by their bit patterns, and what becomes of each: by computation. Assumes nothing.
 use mathlib.Core.Path.{_≡_, refl}
-use mathlib.Core.Bool.{Bool, true, false}
 use Prim.Native.Nat.{ℕ}
-use lib.IntN.{ℤ, pos, negsuc}
+use lib.IntN.{pos, negsuc}
 use lib.Ieee.{Float, binary32, ofBits, le}
 use Rattle.fixed_point.specs.Rounding.{halfOf, nearestOf, fixedSize, fixedOf}
-use Rattle.fixed_point.specs.Limits.{lightnessIn, opponentIn, weightIn, toleranceIn}
 use Rattle.fixed_point.specs.Refusals.{readingRefusal, weightsRefusal, toleranceRefusal}
-use Rattle.fixed_point.specs.declared.Reading.{Reading}
-use Rattle.fixed_point.specs.declared.Weights.{Weights}
 
 abbrev float : ℕ → Float
 float bits = ofBits binary32 bits
@@ -43,7 +39,8 @@ unfolding ofBits fixedSize nearestOf halfOf readingRefusal toleranceRefusal le
 after-hundred = (refl, refl, refl)
 
 -- 128, -128 and the floats after them
-opponent-limits : (fixedOf (float 0x4300_0000) ≡ pos 1280000) × (reading 0 0x4300_0000 0xc300_0000 ≡ 0) × (reading 0 0x4300_0001 0 ≡ 3) × (reading 0 0 0xc300_0001 ≡ 3)
+opponent-limits : (fixedOf (float 0x4300_0000) ≡ pos 1280000) × (reading 0 0x4300_0000 0xc300_0000 ≡ 0) ×
+    (reading 0 0x4300_0001 0 ≡ 3) × (reading 0 0 0xc300_0001 ≡ 3)
 unfolding ofBits fixedOf fixedSize nearestOf halfOf readingRefusal le
 opponent-limits = (refl, refl, refl, refl)
 
@@ -53,7 +50,8 @@ unfolding ofBits fixedOf fixedSize nearestOf halfOf readingRefusal toleranceRefu
 subnormal = (refl, refl, refl, refl)
 
 -- the weights' limits 0.5 and 10, the float before the one and the float after the other
-weight-limits : (weights 0x3f00_0000 0x4120_0000 0x3f80_0000 ≡ 0) × (weights 0x3eff_ffff 0x3f80_0000 0x3f80_0000 ≡ 4) × (weights 0x3f80_0000 0x3f80_0000 0x4120_0001 ≡ 4)
+weight-limits : (weights 0x3f00_0000 0x4120_0000 0x3f80_0000 ≡ 0) × (weights 0x3eff_ffff 0x3f80_0000 0x3f80_0000 ≡ 4) ×
+    (weights 0x3f80_0000 0x3f80_0000 0x4120_0001 ≡ 4)
 unfolding ofBits weightsRefusal le
 weight-limits = (refl, refl, refl)
 
@@ -67,7 +65,8 @@ not-numbers : (reading 0x7fc0_0000 0 0 ≡ 1) × (reading 0x7f80_0000 0 0 ≡ 1)
 unfolding ofBits readingRefusal le
 not-numbers = (refl, refl, refl, refl)
 
-not-weights : (weights 0x7fc0_0000 0x3f80_0000 0x3f80_0000 ≡ 4) × (weights 0x3f80_0000 0x7f80_0000 0x3f80_0000 ≡ 4) × (weights 0x3f80_0000 0x3f80_0000 0xff80_0000 ≡ 4)
+not-weights : (weights 0x7fc0_0000 0x3f80_0000 0x3f80_0000 ≡ 4) × (weights 0x3f80_0000 0x7f80_0000 0x3f80_0000 ≡ 4) ×
+    (weights 0x3f80_0000 0x3f80_0000 0xff80_0000 ≡ 4)
 unfolding ofBits weightsRefusal le
 not-weights = (refl, refl, refl)
 

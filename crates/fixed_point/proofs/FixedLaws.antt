@@ -1,14 +1,15 @@
--- What acceptance says of the whole numbers that come out: the limits of paper 01 in its grid. Callers use these laws and not the definitions' text.
+-- What acceptance says of the whole numbers that come out: the limits in 1/10,000. Callers use these laws and not the
+-- definitions' text.
 -- Assumes nothing.
-use mathlib.Core.Path.{_≡_, refl, sym, ap, _∙_, subst}
+use mathlib.Core.Path.{_≡_, refl, sym, ap, subst}
 use Prim.Native.Nat.{ℕ, zero, suc, _+_, _*_, _/_, _%_, _^_, _≤_, _<_, zero-le}
-use native.Mathlib.Nat.{le-trans, le-of-eq, le-of-lt, le-refl, mod-lt, mul-one, one-mul, mul-assoc, mul-le-mul-left, mul-le-mul-right, lt-of-not-le, div-add-mod', le-div-iff-mul-le, eq-or-lt-of-le, mul-pos, zero-lt-suc}
+use native.Mathlib.Nat.{le-trans, le-of-eq, le-of-lt, mul-assoc, mul-le-mul-left, mul-le-mul-right, lt-of-not-le}
+use native.Mathlib.Nat.{div-add-mod', le-div-iff-mul-le, eq-or-lt-of-le, mul-pos, zero-lt-suc}
 use native.Mathlib.Omega.{arith}
 use native.Mathlib.Decide.{decLe}
 use mathlib.Core.Logic.{_⊎_, inl, inr}
 use mathlib.Core.Bool.{Bool, true, false, not, _&&_, _||_, cond}
-use mathlib.Core.List.{List, [], _∷_}
-use lib.IntN.{ℤ, pos, negsuc, negℤ, natAbs}
+use lib.IntN.{ℤ, pos, negsuc, natAbs}
 use lib.Dec.{T, ltb, eqb, ltb→lt, eqb→eq}
 use lib.Ieee.{Float, nan, inf, fin, up, down, le, lt}
 use lib.Ieee.Fits.{and-l, and-r, up-pos, down-pos}
@@ -16,10 +17,12 @@ use lib.Ieee.Scale.{finite}
 use lib.Ieee.Positive.{num, den}
 use borrow.Author.Tests.{lt-ltb, le-ltb, ltb-false}
 use Rattle.signed.specs.Value.{withSign}
-use Rattle.fixed_point.specs.Limits.{within, lightnessIn, opponentIn, weightIn, toleranceIn, AtMost}
+use Rattle.fixed_point.specs.Limits.{within, lightnessIn, opponentIn, weightIn, toleranceIn}
+use Rattle.fixed_point.specs.Inner.{AtMost}
 use Rattle.fixed_point.specs.Rounding.{halfOf, nearestOf, fixedSize, fixedOf}
-use Rattle.fixed_point.specs.Refusals.{readingRefusal, weightsRefusal, toleranceRefusal, firstOf, firstRefusal}
-use Rattle.fixed_point.specs.Samples.{Sample, sampleOf, weightsOf, SampleIn, WeightIn, WeightsIn}
+use Rattle.fixed_point.specs.Refusals.{readingRefusal, weightsRefusal, toleranceRefusal}
+use Rattle.fixed_point.specs.Samples.{sampleOf, weightsOf}
+use Rattle.sample.specs.Inner.{SampleIn, WeightIn, WeightsIn}
 use Rattle.fixed_point.specs.declared.Reading.{Reading}
 use Rattle.fixed_point.specs.declared.Weights.{Weights}
 
@@ -77,7 +80,8 @@ pub fixed-size-le : (n : ℕ) (x : Float) → AtMost n x → fixedSize x ≤ 100
 unfolding fixedSize
 fixed-size-le n nan h = absurd (h .is-finite)
 fixed-size-le n (inf s) h = absurd (h .is-finite)
-fixed-size-le n (fin s m e) h = nearest-le (10000 * (m * up e)) (down e) (10000 * n) (down-pos e) (le-trans (mul-le-mul-left 10000 (h .size)) (le-of-eq (sym (mul-assoc 10000 n (down e)))))
+fixed-size-le n (fin s m e) h = nearest-le (10000 * (m * up e)) (down e) (10000 * n) (down-pos e)
+    (le-trans (mul-le-mul-left 10000 (h .size)) (le-of-eq (sym (mul-assoc 10000 n (down e)))))
 
 fixed-size-ge : (n : ℕ) (x : Float) → T (finite x) → n * den x ≤ 10000 * num x → n ≤ fixedSize x
 unfolding fixedSize
@@ -114,7 +118,8 @@ sign-is (fin false m e) t = ap (λ (b : Bool). withSign b (fixedSize (fin false 
     under : (a d : ℕ) → 0 * d ≤ a * 1
     under a d = omega arith
 sign-is (fin true zero e) t = no-sign (ltb 0 (0 * up e * 1 + 0 * down e)) true (fixedSize (fin true 0 e)) (zero-is-zero true e)
-sign-is (fin true (suc m) e) t = ap (λ (b : Bool). withSign b (fixedSize (fin true (suc m) e))) (lt-ltb 0 (suc m * up e * 1 + 0 * down e) (above (suc m * up e) (down e) (mul-pos (zero-lt-suc m) (up-pos e))))
+sign-is (fin true (suc m) e) t = ap (λ (b : Bool). withSign b (fixedSize (fin true (suc m) e)))
+    (lt-ltb 0 (suc m * up e * 1 + 0 * down e) (above (suc m * up e) (down e) (mul-pos (zero-lt-suc m) (up-pos e))))
   where
     above : (a d : ℕ) → 0 < a → 0 < a * 1 + 0 * d
     above a d h = omega arith
@@ -136,10 +141,12 @@ or-split true b t = inl tt
 or-split false b t = inr t
 
 either-le : (a b : ℕ) (p : Bool) → T (ltb a b || (eqb a b && p)) → a ≤ b
-either-le a b p t = elim (or-split (ltb a b) (eqb a b && p) t) [ inl u ↦ le-of-lt (ltb→lt a b u) | inr u ↦ le-of-eq (eqb→eq a b (and-l (eqb a b) p u)) ]
+either-le a b p t = elim (or-split (ltb a b) (eqb a b && p) t)
+    [ inl u ↦ le-of-lt (ltb→lt a b u) | inr u ↦ le-of-eq (eqb→eq a b (and-l (eqb a b) p u)) ]
 
 either-ge : (a b : ℕ) (p : Bool) → T (ltb b a || (eqb a b && p)) → b ≤ a
-either-ge a b p t = elim (or-split (ltb b a) (eqb a b && p) t) [ inl u ↦ le-of-lt (ltb→lt b a u) | inr u ↦ le-of-eq (sym (eqb→eq a b (and-l (eqb a b) p u))) ]
+either-ge a b p t = elim (or-split (ltb b a) (eqb a b && p) t)
+    [ inl u ↦ le-of-lt (ltb→lt b a u) | inr u ↦ le-of-eq (sym (eqb→eq a b (and-l (eqb a b) p u))) ]
 
 plain : (a k d : ℕ) → a * 1 ≤ k * d → a ≤ k * d
 plain a k d h = omega arith
@@ -203,7 +210,8 @@ lightness-size x t = record { is-finite = finite-within (fin false 0 (pos 0)) (f
     go nan t = zero-le
     go (inf s) t = zero-le
     go (fin false m e) t = at-most-high 25 2 m e (and-r (le (fin false 0 (pos 0)) (fin false m e)) (le (fin false m e) (fin false 25 (pos 2))) t)
-    go (fin true m e) t = le-trans (minus-zero m e (and-l (le (fin false 0 (pos 0)) (fin true m e)) (le (fin true m e) (fin false 25 (pos 2))) t)) zero-le
+    go (fin true m e) t = le-trans
+        (minus-zero m e (and-l (le (fin false 0 (pos 0)) (fin true m e)) (le (fin true m e) (fin false 25 (pos 2))) t)) zero-le
 
 pub weight-size : (x : Float) → T (weightIn x) → AtMost 10 x
 weight-size x t = record { is-finite = finite-within (fin false 1 (negsuc 0)) (fin false 5 (pos 1)) x tt tt t; size = go x t }
@@ -226,7 +234,8 @@ weight-fixed x t = record { low = fixed-size-ge 5000 x (weight-size x t .is-fini
     go : (x : Float) → T (weightIn x) → 5000 * den x ≤ 10000 * num x
     go nan t = absurd (weight-size nan t .is-finite)
     go (inf s) t = absurd (weight-size (inf s) t .is-finite)
-    go (fin false m e) t = half (m * up e) (down e) (at-least-half m e (and-l (le (fin false 1 (negsuc 0)) (fin false m e)) (le (fin false m e) (fin false 5 (pos 1))) t))
+    go (fin false m e) t = half (m * up e) (down e)
+        (at-least-half m e (and-l (le (fin false 1 (negsuc 0)) (fin false m e)) (le (fin false m e) (fin false 5 (pos 1))) t))
     go (fin true m e) t = absurd (not-half m e (and-l (le (fin false 1 (negsuc 0)) (fin true m e)) (le (fin true m e) (fin false 5 (pos 1))) t))
 
 -- ---- what no refusal says
@@ -291,24 +300,3 @@ weights-in w e =
 
 pub tolerance-le : (t : Float) → toleranceRefusal t ≡ 0 → fixedSize t ≤ 1000000
 tolerance-le t e = fixed-size-le 100 t (lightness-size t (tolerance-accepted t e))
-
--- ---- the order of the refusals
-pub first-none : (m n : ℕ) → firstOf m n ≡ 0 → (m ≡ 0) × (n ≡ 0)
-first-none zero n e = (refl, e)
-first-none (suc m) n e = absurd (suc-not-zero e)
-  where
-    suc-not-zero : {n : ℕ} → suc n ≡ 0 → ⊥
-    suc-not-zero {n} h = omega arith
-
-pub first-last : (n : ℕ) → firstRefusal (n ∷ []) ≡ n
-unfolding firstRefusal
-first-last zero = refl
-first-last (suc n) = refl
-
-pub first-cons : (n : ℕ) (ns : List ℕ) → firstRefusal (n ∷ ns) ≡ firstOf n (firstRefusal ns)
-unfolding firstRefusal
-first-cons n ns = refl
-
--- no refusal at all: none of the first, and none of the others
-pub none-of : (n : ℕ) (ns : List ℕ) → firstRefusal (n ∷ ns) ≡ 0 → (n ≡ 0) × (firstRefusal ns ≡ 0)
-none-of n ns e = first-none n (firstRefusal ns) (sym (first-cons n ns) ∙ e)

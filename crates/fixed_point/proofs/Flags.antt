@@ -21,7 +21,8 @@ outside-high {p} {q} h k = cc
 abbrev pub readingBy : Bool → Bool → Bool → Bool → ℕ
 readingBy f ol oa ob = cond f 1 (cond ol 2 (cond (oa || ob) 3 0))
 
-pub reading-by : (r : Reading) {f ol oa ob : Bool} → (not (finite (r .l)) || not (finite (r .a)) || not (finite (r .b))) ≡ f → not (lightnessIn (r .l)) ≡ ol
+pub reading-by : (r : Reading) {f ol oa ob : Bool} → (not (finite (r .l)) || not (finite (r .a)) || not (finite (r .b))) ≡ f
+    → not (lightnessIn (r .l)) ≡ ol
     → not (opponentIn (r .a)) ≡ oa → not (opponentIn (r .b)) ≡ ob → readingRefusal r ≡ readingBy f ol oa ob
 unfolding readingRefusal
 reading-by r p q t s = λ i. readingBy (p i) (q i) (t i) (s i)
@@ -29,6 +30,7 @@ reading-by r p q t s = λ i. readingBy (p i) (q i) (t i) (s i)
 abbrev pub weightsBy : Bool → Bool → Bool → ℕ
 weightsBy l c h = cond (l || c || h) 4 0
 
-pub weights-by : (w : Weights) {ol oc oh : Bool} → not (weightIn (w .l)) ≡ ol → not (weightIn (w .c)) ≡ oc → not (weightIn (w .h)) ≡ oh → weightsRefusal w ≡ weightsBy ol oc oh
+pub weights-by : (w : Weights) {ol oc oh : Bool} → not (weightIn (w .l)) ≡ ol → not (weightIn (w .c)) ≡ oc → not
+    (weightIn (w .h)) ≡ oh → weightsRefusal w ≡ weightsBy ol oc oh
 unfolding weightsRefusal
 weights-by w p q t = λ i. weightsBy (p i) (q i) (t i)

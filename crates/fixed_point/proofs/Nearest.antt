@@ -1,11 +1,13 @@
 -- From a float that holds a number of halves to the nearest whole number: what cutting it and comparing it with what was cut say. Assumes nothing.
 use mathlib.Core.Path.{_≡_, refl, sym, ap, _∙_, subst}
-use Prim.Native.Nat.{ℕ, zero, suc, _+_, _-_, _*_, _/_, _%_, _^_, _≤_, _<_, min}
-use native.Mathlib.Nat.{le-trans, le-of-eq, le-of-lt, lt-of-le-of-lt, lt-of-lt-of-le, lt-of-not-le, zero-lt-suc, mod-lt, mul-pos, mul-one, one-mul, mul-assoc, mul-comm, mul-left-comm, mul-right-comm, mul-le-mul-right, mul-lt-mul-of-pos-right, le-of-mul-le-mul-right, eq-of-mul-eq-mul-right, div-add-mod', div-lt-iff-lt-mul}
+use Prim.Native.Nat.{ℕ, _+_, _-_, _*_, _/_, _%_, _^_, _≤_, _<_, min}
+use native.Mathlib.Nat.{le-trans, le-of-eq, le-of-lt, lt-of-lt-of-le, lt-of-not-le, mod-lt, mul-pos, mul-assoc}
+use native.Mathlib.Nat.{mul-right-comm, mul-le-mul-right, le-of-mul-le-mul-right, eq-of-mul-eq-mul-right, div-add-mod'}
+use native.Mathlib.Nat.{div-lt-iff-lt-mul}
 use native.Mathlib.Omega.{arith}
-use mathlib.Core.Bool.{Bool, true, false, _&&_, _||_, cond, true≢false}
-use lib.IntN.{ℤ, pos}
-use lib.Dec.{T, ltb, leb, eqb, lt→ltb, le→leb, lit<, lit≤}
+use mathlib.Core.Bool.{Bool, true, false, _&&_, true≢false}
+use lib.IntN.{pos}
+use lib.Dec.{T, ltb, leb, eqb, lt→ltb, le→leb, lit≤}
 use lib.Arith.{digits-div}
 use lib.Ieee.{Float, nan, inf, fin, binary64, up, down, lt, eq, ofInt, toUnsigned, inFloat}
 use lib.Ieee.Fits.{down-pos}
@@ -17,7 +19,7 @@ use lib.Ieee.Scale.{finite}
 use native.Mathlib.Decide.{decLe}
 use borrow.Author.Tests.{lt-ltb, le-ltb, eq-eqb, ne-eqb, eqb-true, eqb-false}
 use Rattle.fixed_point.specs.Rounding.{halfOf, nearestOf, fixedSize}
-use Rattle.fixed_point.specs.Limits.{AtMost}
+use Rattle.fixed_point.specs.Inner.{AtMost}
 
 -- ---- the arithmetic: N / c to the nearest, from t, the whole part of 2 N / c
 module _ (N c : ℕ) (C : 0 < c) where
@@ -100,11 +102,11 @@ module _ (N c : ℕ) (C : 0 < c) where
       rw (t, u) (ap (λ (x : ℕ). x + 1) (half-odd h))
 
 -- ---- the float w, which is a / c
-abbrev pub Small : ℕ → ℕ → Type 0
-Small a c = (0 < c) × (a ≤ 2560000 * c)
+abbrev pub PartsIn : ℕ → ℕ → Type 0
+PartsIn a c = (0 < c) × (a ≤ 2560000 * c)
 
 -- m / d is a / c, so it is below what a / c is
-size-small : (m d a c : ℕ) → Small a c → m * c ≡ a * d → m ≤ 2560000 * d
+size-small : (m d a c : ℕ) → PartsIn a c → m * c ≡ a * d → m ≤ 2560000 * d
 size-small m d a c s e =
     le-of-mul-le-mul-right {k = c} (le-trans (le-of-eq e) (le-trans (mul-le-mul-right d (s .1)) (le-of-eq (mul-right-comm 2560000 c d)))) (s .0)
 
@@ -114,23 +116,27 @@ in-range m d p h = omega arith
 above-minus-one : (m d : ℕ) → 0 < d → 0 < 1 * 1 * d + m * 1
 above-minus-one m d p = omega arith
 
-pub cut-asks : (w : Float) (a c : ℕ) → Small a c → HasValue w false a c → T (lt (fin true 1 (pos 0)) w) × T (lt w (fin false 1 (pos 64)))
+pub cut-asks : (w : Float) (a c : ℕ) → PartsIn a c → HasValue w false a c → T (lt (fin true 1 (pos 0)) w) × T (lt w (fin false 1 (pos 64)))
 unfolding lt
 cut-asks nan a c s v = absurd v
 cut-asks (inf t) a c s v = absurd v
 cut-asks (fin true m e) a c s v = absurd (true≢false (v .0))
-cut-asks (fin false m e) a c s v = (lt→ltb 0 (1 * 1 * down e + m * up e * 1) (above-minus-one (m * up e) (down e) (down-pos e)), lt→ltb (m * up e * 1) (1 * 2 ^ 64 * down e) (in-range (m * up e) (down e) (down-pos e) (size-small (m * up e) (down e) a c s (v .1))))
+cut-asks (fin false m e) a c s v = (
+  lt→ltb 0 (1 * 1 * down e + m * up e * 1) (above-minus-one (m * up e) (down e) (down-pos e)),
+  lt→ltb (m * up e * 1)
+      (1 * 2 ^ 64 * down e) (in-range (m * up e) (down e) (down-pos e) (size-small (m * up e) (down e) a c s (v .1))),
+)
 
 uncapped : (t : ℕ) → t < 2 ^ 64 → min t (2 ^ 64 - 1) ≡ t
 uncapped t h = omega arith
 
-pub cut-small : (a c : ℕ) → Small a c → a / c < 2560001
+pub cut-small : (a c : ℕ) → PartsIn a c → a / c < 2560001
 cut-small a c s = div-lt-iff-lt-mul (s .0) .1 (go a c (s .0) (s .1))
   where
     go : (a c : ℕ) → 0 < c → a ≤ 2560000 * c → a < 2560001 * c
     go a c p h = omega arith
 
-pub cut-is : (w : Float) (a c : ℕ) → Small a c → HasValue w false a c → toUnsigned 64 w ≡ a / c
+pub cut-is : (w : Float) (a c : ℕ) → PartsIn a c → HasValue w false a c → toUnsigned 64 w ≡ a / c
 unfolding toUnsigned
 cut-is nan a c s v = absurd v
 cut-is (inf t) a c s v = absurd v
@@ -182,7 +188,8 @@ equal-whole (fin false m e) nan a c t v k h = absurd k
 equal-whole (fin false m e) (inf s) a c t v k h = absurd k
 equal-whole (fin false m e) (fin true n d) a c t v k h = absurd (true≢false (k .0))
 equal-whole (fin false m e) (fin false n d) a c t v k h =
-    cross (m * up e) (down e) (n * up d) (down d) a c t (down-pos e) (down-pos d) (v .1) (k .1) (eqb-true (m * up e * down d) (n * up d * down e) (left-true _ h))
+    cross (m * up e) (down e) (n * up d) (down d) a c t (down-pos e) (down-pos d) (v .1) (k .1)
+    (eqb-true (m * up e * down d) (n * up d * down e) (left-true _ h))
 
 pub unequal-whole : (w z : Float) (a c t : ℕ) → 0 < c → HasValue w false a c → HasValue z false t 1 → eq w z ≡ false → a ≡ t * c → ⊥
 unfolding eq
@@ -196,7 +203,7 @@ unequal-whole (fin false m i) (fin false n d) a c t C v k h e =
     eqb-false (m * up i * down d) (n * up d * down i) (left-false _ h) (cross-back (m * up i) (down i) (n * up d) (down d) a c t C (v .1) (k .1) e)
 
 -- ---- for the size of x, num x / den x, with N = 10,000 num x
-pub small : (x : Float) → AtMost 128 x → Small (num x * 20000) (den x)
+pub small : (x : Float) → AtMost 128 x → PartsIn (num x * 20000) (den x)
 small x h = (den-pos x, go (num x) (den x) (h .size))
   where
     go : (n d : ℕ) → n ≤ 128 * d → n * 20000 ≤ 2560000 * d
@@ -216,7 +223,9 @@ module _ (x : Float) (h : AtMost 128 x) (t : ℕ) (e : t ≡ num x * 20000 / den
   halves-are = ap (λ (n : ℕ). n / den x) (sym (doubled (num x))) ∙ sym e
 
   pub size-even : t % 2 ≡ 0 → t / 2 ≡ fixedSize x
-  size-even p = subst (λ (n : ℕ). n / 2 ≡ fixedSize x) halves-are (nearest-even (10000 * num x) (den x) (den-pos x) (subst (λ (n : ℕ). n % 2 ≡ 0) (sym halves-are) p) ∙ sym (size-is x (h .is-finite)))
+  size-even p = subst (λ (n : ℕ). n / 2 ≡ fixedSize x) halves-are
+      (nearest-even (10000 * num x) (den x) (den-pos x) (subst (λ (n : ℕ). n % 2 ≡ 0) (sym halves-are) p) ∙ sym
+      (size-is x (h .is-finite)))
 
   odd-there : (t % 2 ≡ 0 → ⊥) → 2 * (10000 * num x) / den x % 2 ≡ 0 → ⊥
   odd-there p z = p (subst (λ (n : ℕ). n % 2 ≡ 0) halves-are z)
@@ -224,9 +233,11 @@ module _ (x : Float) (h : AtMost 128 x) (t : ℕ) (e : t ≡ num x * 20000 / den
   pub size-half : (t % 2 ≡ 0 → ⊥) → num x * 20000 ≡ t * den x → halfOf (t / 2) ≡ fixedSize x
   size-half p q =
       subst (λ (n : ℕ). halfOf (n / 2) ≡ fixedSize x) halves-are
-      (nearest-half (10000 * num x) (den x) (den-pos x) (odd-there p) (sym (doubled (num x)) ∙ q ∙ ap (λ (n : ℕ). n * den x) (sym halves-are)) ∙ sym (size-is x (h .is-finite)))
+      (nearest-half (10000 * num x) (den x) (den-pos x) (odd-there p)
+      (sym (doubled (num x)) ∙ q ∙ ap (λ (n : ℕ). n * den x) (sym halves-are)) ∙ sym (size-is x (h .is-finite)))
 
   pub size-above : (t % 2 ≡ 0 → ⊥) → (num x * 20000 ≡ t * den x → ⊥) → t / 2 + 1 ≡ fixedSize x
   size-above p q =
       subst (λ (n : ℕ). n / 2 + 1 ≡ fixedSize x) halves-are
-      (nearest-above (10000 * num x) (den x) (den-pos x) (odd-there p) (λ z. q (doubled (num x) ∙ z ∙ ap (λ (n : ℕ). n * den x) halves-are)) ∙ sym (size-is x (h .is-finite)))
+      (nearest-above (10000 * num x) (den x) (den-pos x) (odd-there p)
+      (λ z. q (doubled (num x) ∙ z ∙ ap (λ (n : ℕ). n * den x) halves-are)) ∙ sym (size-is x (h .is-finite)))

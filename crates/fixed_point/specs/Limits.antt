@@ -1,12 +1,8 @@
--- Paper 01's limits, tested on a float's exact value before it is rounded. A limit itself is accepted. `le` is false where a side is not a number, and an
--- infinity is above or below every limit.
-use Prim.Native.Nat.{ℕ, _*_, _≤_}
-use mathlib.Core.Bool.{Bool, true, false, not, _&&_}
-use lib.Dec.{T}
+-- The limits, tested on a float's exact value before it is rounded. A limit itself is accepted. `le` is false where a side is
+-- not a number, and an infinity is above or below every limit. Assumes nothing.
+use mathlib.Core.Bool.{Bool, true, false, _&&_}
 use lib.IntN.{pos, negsuc}
 use lib.Ieee.{Float, fin, le}
-use lib.Ieee.Scale.{finite}
-use lib.Ieee.Positive.{num, den}
 
 abbrev pub within : Float → Float → Float → Bool
 within low high x = le low x && le x high
@@ -26,8 +22,3 @@ weightIn x = within (fin false 1 (negsuc 0)) (fin false 5 (pos 1)) x
 -- a tolerance: 0 to 100
 abbrev pub toleranceIn : Float → Bool
 toleranceIn x = within (fin false 0 (pos 0)) (fin false 25 (pos 2)) x
-
--- finite, and of at most n in size
-pub record AtMost (n : ℕ) (x : Float) : Type 0 where
-  pub is-finite : T (finite x)
-  pub size : num x ≤ n * den x

@@ -1,7 +1,6 @@
--- Refusals 1 to 5 of paper 01's table, by its numbers and in its order; 0 is no refusal.
-use Prim.Native.Nat.{ℕ, zero, suc}
-use mathlib.Core.Bool.{Bool, not, _&&_, _||_, cond}
-use mathlib.Core.List.{List, [], _∷_}
+-- Refusals 1 to 5 of floats, by their numbers and in their order; 0 is no refusal. Assumes nothing.
+use Prim.Native.Nat.{ℕ}
+use mathlib.Core.Bool.{not, _||_, cond}
 use lib.Ieee.{Float}
 use lib.Ieee.Scale.{finite}
 use Rattle.fixed_point.specs.Limits.{lightnessIn, opponentIn, weightIn, toleranceIn}
@@ -22,13 +21,3 @@ weightsRefusal w = cond (not (weightIn (w .l)) || not (weightIn (w .c)) || not (
 -- 5: the tolerance is not a number or outside its limits
 unfoldable pub toleranceRefusal : Float → ℕ
 toleranceRefusal t = cond (not (toleranceIn t)) 5 0
-
--- of two refusals, the one tested first where it applies
-abbrev pub firstOf : ℕ → ℕ → ℕ
-firstOf zero n = n
-firstOf (suc m) n = suc m
-
--- the first that applies, of the refusals in the order in which they are tested
-unfoldable pub firstRefusal : List ℕ → ℕ
-firstRefusal [] = 0
-firstRefusal (n ∷ ns) = firstOf n (firstRefusal ns)

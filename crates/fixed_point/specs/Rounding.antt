@@ -1,5 +1,5 @@
--- A float's exact value, times 10,000, to the nearest whole number: paper 01's grid. `fin s m e` is the number m * 2 ^ e, negative where s is true, so its
--- size is the fraction m * up e / down e.
+-- A float's exact value, times 10,000, to the nearest whole number: 01's grid. `fin s m e` is the number m * 2 ^ e, negative
+-- where s is true, so its size is the fraction m * up e / down e. Assumes nothing.
 use Prim.Native.Nat.{ℕ, _+_, _*_, _/_, _%_}
 use mathlib.Core.Bool.{cond}
 use lib.Dec.{ltb, eqb}

@@ -1,16 +1,20 @@
-// Readings, weights and tolerances: which floats are accepted, and the whole number of 1/10,000
-// (paper 01's grid) that each accepted float stands for.
+// Readings, weights and tolerances as floats: which are accepted, and the whole number of 1/10,000
+// that each accepted float is rounded to.
 ghost use mathlib.Core.Path.{_≡_};
 ghost use mathlib.Core.Bool.{false, not, _||_};
 ghost use Prim.Native.Nat.{_*_, _<_};
 ghost use lib.Ieee.Exact.{HasValue};
 ghost use lib.Ieee.Positive.{num, den};
 ghost use lib.Ieee.Scale.{finite};
-ghost use Rattle.signed.specs.Value.{int};
-ghost use Rattle.fixed_point.specs.Limits.{within, AtMost};
+ghost use Rattle.signed.specs.Inner.{int};
+ghost use Rattle.fixed_point.specs.Limits.{within};
+ghost use Rattle.fixed_point.specs.Inner.{AtMost};
 ghost use Rattle.fixed_point.specs.Rounding.{halfOf, fixedSize, fixedOf};
-ghost use Rattle.fixed_point.specs.Refusals.{readingRefusal, weightsRefusal, toleranceRefusal, firstOf};
-ghost use Rattle.fixed_point.specs.Samples.{sampleOf, labOf, weightsOf};
+ghost use Rattle.fixed_point.specs.Refusals.{readingRefusal, weightsRefusal, toleranceRefusal};
+ghost use Rattle.fixed_point.specs.Samples.{sampleOf, weightsOf};
+ghost use Rattle.sample.specs.Inner.{labOf};
+use sample::FixedWeights;
+use sample::Lab;
 use signed::Int;
 
 // A measured colour in CIELAB.
@@ -27,20 +31,7 @@ pub struct Weights {
     pub h: f32,
 }
 
-// A sample and weights in whole numbers of 1/10,000.
-pub struct Lab {
-    pub l: u64,
-    pub a: Int,
-    pub b: Int,
-}
-
-pub struct FixedWeights {
-    pub l: u64,
-    pub c: u64,
-    pub h: u64,
-}
-
-// Neither infinite nor a NaN: only such a number lies between the infinities.
+// Whether x is infinite or a NaN: only a finite number lies between the infinities.
 fn not_finite(x: f32) -> bool
     ensures { λ r. ⌜ r ≡ not (finite x) ⌝ }
 {
@@ -53,6 +44,7 @@ fn not_finite(x: f32) -> bool
     true
 }
 
+// Whether x is outside the limits. A NaN is.
 fn outside(x: f32, low: f32, high: f32) -> bool
     ensures { λ r. ⌜ r ≡ not (within low high x) ⌝ }
 {
@@ -64,6 +56,7 @@ fn outside(x: f32, low: f32, high: f32) -> bool
     true
 }
 
+// Whether L, a or b is infinite or a NaN.
 fn some_not_finite(r: Reading) -> bool
     ensures { λ n. ⌜ n ≡ (not (finite (r .l)) || not (finite (r .a)) || not (finite (r .b))) ⌝ }
 {
@@ -76,7 +69,7 @@ fn some_not_finite(r: Reading) -> bool
     not_finite(r.b)
 }
 
-// Refusal 1, 2 or 3 of paper 01, or 0.
+// Refusal 1, 2 or 3 of a reading, or 0.
 pub fn reading_refusal(r: Reading) -> u8
     ensures { λ n. ⌜ n ≡ readingRefusal r ⌝ }
 {
@@ -95,7 +88,7 @@ pub fn reading_refusal(r: Reading) -> u8
     0
 }
 
-// Refusal 4, or 0.
+// Refusal 4 of the weights, or 0.
 pub fn weights_refusal(w: Weights) -> u8
     ensures { λ n. ⌜ n ≡ weightsRefusal w ⌝ }
 {
@@ -111,7 +104,7 @@ pub fn weights_refusal(w: Weights) -> u8
     0
 }
 
-// Refusal 5, or 0.
+// Refusal 5 of a tolerance, or 0.
 pub fn tolerance_refusal(t: f32) -> u8
     ensures { λ n. ⌜ n ≡ toleranceRefusal t ⌝ }
 {
@@ -119,13 +112,6 @@ pub fn tolerance_refusal(t: f32) -> u8
         return 5;
     }
     0
-}
-
-// Of two refusals the one tested first, where it applies.
-pub fn first_of(m: u8, n: u8) -> u8
-    ensures { λ r. ⌜ r ≡ firstOf m n ⌝ }
-{
-    if m == 0 { n } else { m }
 }
 
 // What a half goes to, its whole part being q.
@@ -170,6 +156,7 @@ fn fixed_size(x: f32) -> u64
     q + 1
 }
 
+// x in whole numbers of 1/10,000.
 fn fixed(x: f32) -> Int
     requires { ⌜ AtMost 128 x ⌝ }
     ensures { λ r. ⌜ int r ≡ fixedOf x ⌝ }
@@ -192,6 +179,7 @@ pub fn fixed_reading(r: Reading) -> Lab
     }
 }
 
+// Accepted weights, rounded.
 pub fn fixed_weights(w: Weights) -> FixedWeights
     requires { ⌜ weightsRefusal w ≡ 0 ⌝ }
     ensures { λ r. ⌜ r ≡ weightsOf w ⌝ }
@@ -203,6 +191,7 @@ pub fn fixed_weights(w: Weights) -> FixedWeights
     }
 }
 
+// An accepted tolerance, rounded.
 pub fn fixed_tolerance(t: f32) -> u64
     requires { ⌜ toleranceRefusal t ≡ 0 ⌝ }
     ensures { λ r. ⌜ r ≡ fixedSize t ⌝ }

@@ -1,13 +1,10 @@
--- Step 11 of 01's working, its "bell": the Gaussian exp(-v) of the distance between the mean hue and 275 degrees,
+-- Step 11, 01's "bell": the Gaussian exp(-v) of the distance between the mean hue and 275 degrees,
 -- v being the square of the distance over 25 degrees.
 -- Entries and results are whole numbers of 10^-9; an entry is worked in whole numbers of 10^-24. Division drops the remainder.
 -- Assumes nothing.
-use mathlib.Core.Path.{_≡_}
 use mathlib.Core.Bool.{cond}
-use mathlib.Core.List.{List}
-use Prim.Native.Nat.{ℕ, zero, suc, _+_, _-_, _*_, _/_, _%_, _^_, _<_}
+use Prim.Native.Nat.{ℕ, zero, suc, _+_, _-_, _*_, _/_, _%_, _^_}
 use lib.Dec.{ltb}
-use lib.ListN.{length, getD}
 
 -- the sum of a term of the series of e^v, the nth, and of as many more terms after it; v and the terms in 10^-24
 unfoldable pub terms : ℕ → ℕ → ℕ → ℕ → ℕ
@@ -29,8 +26,3 @@ gaussianBetween j rest = gaussianEntry j - (gaussianEntry j - gaussianEntry (j +
 -- the Gaussian at a distance in 10^-6 degree: 0 from 120 degrees on
 unfoldable pub gaussianOf : ℕ → ℕ
 gaussianOf distance = cond (ltb distance 120000000) (gaussianBetween (distance / 100000) (distance % 100000)) 0
-
--- the list is the table of the entries, one for each tenth of a degree from 0 to 120
-pub record GaussianTable (t : List ℕ) : Type 0 where
-  pub size : length t ≡ 1201
-  pub entry : (j : ℕ) → j < 1201 → getD t j 0 ≡ gaussianEntry j

@@ -1,1 +1,2 @@
 pub mod Gaussian
+pub mod Inner

@@ -1,7 +1,8 @@
-// Step 11 of 01's working: the Gaussian exp(-v) of the distance between the mean hue and 275 degrees (01's "bell"),
+// Step 11: the Gaussian exp(-v) of the distance between the mean hue and 275 degrees (01's "bell"),
 // by a table with an entry for each tenth of a degree, and straight lines between the entries.
 ghost use mathlib.Core.Path.{_≡_};
-ghost use Rattle.gaussian.specs.Gaussian.{GaussianTable, gaussianOf};
+ghost use Rattle.gaussian.specs.Inner.{GaussianTable};
+ghost use Rattle.gaussian.specs.Gaussian.{gaussianOf};
 
 // The table. A lookup in a constant stores the whole of it each time, so a caller copies it once and lends it.
 pub fn gaussian_table() -> [u32; 1201]

@@ -1,4 +1,4 @@
--- The hue of a point (step 5 of the working): its quadrant, the tenth of a degree below, and the rest.
+-- The hue of a point (step 5): its quadrant, the tenth of a degree below, and the rest.
 -- A hue is a whole number of 10^-6 degree, a sine of 10^-9; a, b and the chroma are in one unit, whatever it is.
 -- Assumes nothing.
 use mathlib.Core.Bool.{Bool, cond, _&&_}
@@ -12,14 +12,18 @@ use Rattle.sine.specs.Sine.{sineEntry, cosineEntry}
 unfoldable pub grey : ℤ → ℤ → Bool
 grey a b = eqb (natAbs a) 0 && eqb (natAbs b) 0
 
--- 0 to 3, and 4 for grey, which is in no quadrant
+-- what stands for the quadrant of a grey colour, which is in none
+abbrev pub greyQuadrant : ℕ
+greyQuadrant = 4
+
+-- 0 to 3, or that of grey
 unfoldable pub quadrantOf : ℤ → ℤ → ℕ
 quadrantOf a b =
     cond (ltZ (pos 0) a && leZ (pos 0) b) 0
     (cond (leZ a (pos 0) && ltZ (pos 0) b) 1
     (cond (ltZ a (pos 0) && leZ b (pos 0)) 2
     (cond (leZ (pos 0) a && ltZ b (pos 0)) 3
-    4)))
+    greyQuadrant)))
 
 -- the point turned into quadrant 0 by whole quarter turns: x is the size of a in the quadrants 0 and 2, of b in 1 and 3, and y the other
 unfoldable pub turnedX : ℕ → ℤ → ℤ → ℕ

@@ -4,11 +4,14 @@ use signed::Int;
 ghost use mathlib.Core.Path.{_≡_};
 ghost use mathlib.Core.Bool.{true};
 ghost use Prim.Native.Nat.{_+_, _*_, _≤_, _<_};
-ghost use Rattle.signed.specs.Value.{int};
-ghost use Rattle.sine.specs.Sine.{SineTable};
+ghost use Rattle.signed.specs.Inner.{int};
+ghost use Rattle.sine.specs.Inner.{SineTable};
 ghost use Rattle.hue.specs.Hue.{quadrantOf, largest, reaches, restOf, angleOf, hueOf};
 
-// 0 to 3, and 4 for grey.
+// What stands for the quadrant of a grey colour, which is in none.
+pub const GREY: u64 = 4;
+
+// The quadrant, 0 to 3, or GREY.
 pub fn quadrant(a: Int, b: Int) -> u64
     ensures { λ r. ⌜ r ≡ quadrantOf (int a) (int b) ⌝ }
 {
@@ -27,7 +30,7 @@ pub fn quadrant(a: Int, b: Int) -> u64
     if signed::is_negative(b) {
         return 3;
     }
-    4
+    GREY
 }
 
 // Whether y cos k - x sin k is at least 0, for k tenths of a degree.
@@ -69,7 +72,7 @@ fn rest(t: &[u32; 901], x: u64, y: u64, k: usize, chroma: u64) -> u64
 {
     // the sine of the rest, taken for its arc, and that in 10^-6 degree
     let v = (y * sine::entry(t, 900 - k) - x * sine::entry(t, k)) / chroma;
-    let degrees = v * 57295780 / 1000000000;
+    let degrees = v * 57295780 / sine::ONE;
     if degrees < 99999 { degrees } else { 99999 }
 }
 
@@ -82,7 +85,7 @@ fn angle(t: &[u32; 901], q: u64, x: u64, y: u64, chroma: u64) -> u64
     ensures { λ r. ⌜ r ≡ 90000000 * q + angleOf x y chroma ⌝ }
 {
     let k = tenth(t, x, y, 0, 899);
-    90000000 * q + 100000 * (k as u64) + rest(t, x, y, k, chroma)
+    sine::QUARTER_TURN * q + sine::TENTH * (k as u64) + rest(t, x, y, k, chroma)
 }
 
 // The hue of (a, b) with the given chroma. Grey has the hue 0.
@@ -93,7 +96,7 @@ pub fn hue(t: &[u32; 901], a: Int, b: Int, chroma: u64) -> u64
     ensures { λ r. ⌜ r ≡ hueOf (int a) (int b) chroma ⌝ }
 {
     let q = quadrant(a, b);
-    if q == 4 {
+    if q == GREY {
         return 0;
     }
     if q % 2 == 0 {

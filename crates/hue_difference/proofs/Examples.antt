@@ -1,4 +1,4 @@
--- What antt computes from the definitions. The first samples are those of 01's table: a, b (2.49, -0.0010) with (-2.49, 0.0009),
+-- What antt computes from the definitions. The first samples are those of the proved table: a, b (2.49, -0.0010) with (-2.49, 0.0009),
 -- (-2.49, 0.0010) and (-2.49, 0.0011), in 1/10,000.
 -- Assumes nothing.
 use mathlib.Core.Path.{_≡_, refl}
@@ -6,7 +6,8 @@ use mathlib.Core.Bool.{true, false}
 use lib.IntN.{pos, negℤ}
 use Rattle.isqrt.specs.Root.{nextRoot, rootIn, rootOf}
 use Rattle.hue.specs.Hue.{grey, quadrantOf}
-use Rattle.hue_difference.specs.HueDifference.{crossOf, laterIn, secondLater, firstLater, farOf, oppositeOf, noHueOf, hueNegative, dotOf, hueSize, hueDifferenceOf, meanHueOf}
+use Rattle.hue_difference.specs.HueDifference.{crossOf, laterIn, secondLater, firstLater, farOf, oppositeOf, noHueOf}
+use Rattle.hue_difference.specs.HueDifference.{hueNegative, dotOf, hueSize, hueDifferenceOf, meanHueOf}
 
 -- ---- less than half a turn apart, exactly half a turn, and more
 

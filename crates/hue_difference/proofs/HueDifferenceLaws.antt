@@ -15,8 +15,9 @@ use Rattle.signed.specs.Value.{withSign}
 use Rattle.signed.proofs.SignedLaws.{natAbs-neg, neg-sub, lt-neg, lt-neg-pos}
 use Rattle.hue.specs.Hue.{grey, quadrantOf}
 use Rattle.hue.proofs.HueLaws.{grey-zero}
-use Rattle.hue_difference.specs.Facts.{Primed}
-use Rattle.hue_difference.specs.HueDifference.{crossOf, laterIn, secondLater, firstLater, farOf, oppositeOf, noHueOf, hueNegative, dotOf, hueSize, hueDifferenceOf, meanHueOf}
+use Rattle.hue_difference.specs.Inner.{Primed}
+use Rattle.hue_difference.specs.HueDifference.{crossOf, laterIn, secondLater, firstLater, farOf, oppositeOf, noHueOf}
+use Rattle.hue_difference.specs.HueDifference.{hueNegative, dotOf, hueSize, hueDifferenceOf, meanHueOf}
 use Rattle.hue_difference.proofs.Signs.{opposite-parts, hue-parts, eqb-comm, ltb-other, sign-other, size-zero, sign-not, either-of}
 use Rattle.hue_difference.proofs.Sizes as sizes
 
@@ -94,7 +95,8 @@ module _ (a1 b1 a2 b2 : ℤ) where
   opposite-sign e = rw e
 
   -- where step 7 does not make H 0: neither sample is grey, and X is not 0 unless the hues are opposite
-  hued : noHueOf a1 b1 a2 b2 ≡ false → (grey a1 b1 ≡ false) × (grey a2 b2 ≡ false) × (oppositeOf a1 b1 a2 b2 ≡ false → eqb (natAbs (crossOf a1 b1 a2 b2)) 0 ≡ false)
+  hued : noHueOf a1 b1 a2 b2 ≡ false → (grey a1 b1 ≡ false) × (grey a2 b2 ≡ false) ×
+      (oppositeOf a1 b1 a2 b2 ≡ false → eqb (natAbs (crossOf a1 b1 a2 b2)) 0 ≡ false)
   unfolding noHueOf
   hued e = hue-parts (grey a1 b1) (grey a2 b2) _ (oppositeOf a1 b1 a2 b2) e
 

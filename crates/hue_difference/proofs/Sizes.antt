@@ -12,7 +12,7 @@ use lib.Signed.{ltZ}
 use Rattle.isqrt.specs.Root.{rootOf}
 use Rattle.isqrt.proofs.RootLaws.{root-lt-next, root-below}
 use Rattle.signed.proofs.SignedLaws.{natAbs-neg, natAbs-mul, natAbs-add}
-use Rattle.hue_difference.specs.Facts.{Primed}
+use Rattle.hue_difference.specs.Inner.{Primed}
 use Rattle.hue_difference.specs.HueDifference.{crossOf, dotOf, hueSize}
 
 -- ---- the sum under the root: in each branch d is taken with the sign that makes it a sum of sizes

@@ -1,4 +1,4 @@
--- The hues of two samples against each other (steps 6, 7 and 8 of the working): which way round the hue circle, the hue part H
+-- The hues of two samples against each other (steps 6, 7 and 8): which way round the hue circle, the hue difference H
 -- with its sign, and the mean hue. Sample 1 is (a1, b1), sample 2 is (a2, b2).
 -- Assumes nothing.
 use mathlib.Core.Bool.{Bool, cond, not, _&&_, _||_}
@@ -63,7 +63,7 @@ hueSize a1 b1 c1 a2 b2 c2 =
     (2 * rootOf (natAbs (pos (c1 * c2) -ℤ dotOf a1 b1 a2 b2) / 2))
     (natAbs (crossOf a1 b1 a2 b2) / rootOf (natAbs (pos (c1 * c2) +ℤ dotOf a1 b1 a2 b2) / 2))
 
--- the hue part H, in 10^-7: 0 where there is none, else the size with its sign
+-- the hue difference H, in 10^-7: 0 where there is none, else the size with its sign
 unfoldable pub hueDifferenceOf : Bool → Bool → ℕ → ℤ
 hueDifferenceOf none negative size = cond none (pos 0) (withSign negative size)
 

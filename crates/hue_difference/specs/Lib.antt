@@ -1,2 +1,2 @@
 pub mod HueDifference
-pub mod Facts
+pub mod Inner

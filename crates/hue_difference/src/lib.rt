@@ -1,23 +1,22 @@
-// The hues of two samples against each other: which way round the hue circle (exact, from the grid values), the hue part H
-// with its sign, and the mean hue. Steps 6, 7 and 8 of paper 01's working; sample 1 is (a1, b1), sample 2 is (a2, b2).
+// The hues of two samples against each other: which way round the hue circle, decided exactly, the hue difference H with its
+// sign, and the mean hue. Steps 6, 7 and 8; sample 1 is (a1, b1), sample 2 is (a2, b2).
 use signed::Int;
 ghost use mathlib.Core.Path.{_≡_};
 ghost use mathlib.Core.Bool.{false, cond, not};
 ghost use Prim.Native.Nat.{_+_, _*_, _^_, _≤_, _<_};
-ghost use Rattle.signed.specs.Value.{int, Within};
+ghost use Rattle.signed.specs.Inner.{int, Within};
 ghost use Rattle.hue.specs.Hue.{quadrantOf};
 ghost use Rattle.hue_difference.specs.HueDifference.{crossOf, laterIn, dotOf, hueSize, hueDifferenceOf, meanHueOf};
-ghost use Rattle.hue_difference.specs.Facts.{Primed, SideIs};
+ghost use Rattle.hue_difference.specs.Inner.{Primed, SideIs};
 
-// What the exact grid values say of two hues.
+// What a and b in 1/10,000 say exactly of two hues.
 pub struct Side {
     pub far: bool, // more than half a turn apart
     pub none: bool, // H is 0
     pub negative: bool, // H is below 0, where it is not 0
-    pub opposite: bool, // exactly half a turn apart
 }
 
-// 01's X.
+// The cross product X.
 fn cross(a1: Int, b1: Int, a2: Int, b2: Int) -> Int
     requires { ⌜ a1 .n * b2 .n + a2 .n * b1 .n < 2 ^ 64 ⌝ }
     ensures { λ r. ⌜ Within (crossOf (int a1) (int b1) (int a2) (int b2)) (a1 .n * b2 .n + a2 .n * b1 .n) r ⌝ }
@@ -25,7 +24,7 @@ fn cross(a1: Int, b1: Int, a2: Int, b2: Int) -> Int
     signed::difference(signed::product(a1, b2), signed::product(a2, b1))
 }
 
-// 01's d.
+// The dot product d.
 fn dot(a1: Int, b1: Int, a2: Int, b2: Int) -> Int
     requires { ⌜ a1 .n * a2 .n + b1 .n * b2 .n < 2 ^ 64 ⌝ }
     ensures { λ r. ⌜ Within (dotOf (int a1) (int b1) (int a2) (int b2)) (a1 .n * a2 .n + b1 .n * b2 .n) r ⌝ }
@@ -64,17 +63,16 @@ pub fn side_of(a1: Int, b1: Int, q1: u64, a2: Int, b2: Int, q2: u64) -> Side
     let zero = signed::is_zero(x);
     let second = later(q1, q2, positive);
     let first = later(q2, q1, negative);
-    let opposite = (q1 != 4) & (q2 != 4) & zero & (q1 != q2); // 4 is grey
+    let opposite = (q1 != hue::GREY) & (q2 != hue::GREY) & zero & (q1 != q2);
     Side {
         far: (second & negative) | (first & positive),
-        none: (q1 == 4) | (q2 == 4) | (zero & !opposite),
+        none: (q1 == hue::GREY) | (q2 == hue::GREY) | (zero & !opposite),
         negative: is_minus(opposite, second, negative),
-        opposite: opposite,
     }
 }
 
 // The size of H in 10^-7, of a', b' and C' in 10^-7. C1'C2' + d where d is not below 0, and C1'C2' - d where it is, are one sum.
-pub fn hue_size(a1: Int, b1: Int, c1: u64, a2: Int, b2: Int, c2: u64) -> u64
+fn hue_size(a1: Int, b1: Int, c1: u64, a2: Int, b2: Int, c2: u64) -> u64
     requires { ⌜ Primed (a1 .n) (b1 .n) c1 ⌝ }
     requires { ⌜ Primed (a2 .n) (b2 .n) c2 ⌝ }
     requires { ⌜ (1000 ≤ c1) × (1000 ≤ c2) ⌝ }
@@ -89,7 +87,7 @@ pub fn hue_size(a1: Int, b1: Int, c1: u64, a2: Int, b2: Int, c2: u64) -> u64
     x.n / root
 }
 
-// The hue part H in 10^-7: 0 where there is none, else the size with its sign.
+// The hue difference H in 10^-7: 0 where there is none, else the size with its sign.
 pub fn hue_difference(
     none: bool,
     negative: bool,
@@ -125,10 +123,10 @@ pub fn mean_hue(grey: bool, far: bool, h1: u64, h2: u64) -> u64
         return sum;
     }
     if far {
-        if sum < 360000000 {
-            return (sum + 360000000) / 2;
+        if sum < sine::TURN {
+            return (sum + sine::TURN) / 2;
         }
-        return (sum - 360000000) / 2;
+        return (sum - sine::TURN) / 2;
     }
     half
 }

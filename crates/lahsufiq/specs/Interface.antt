@@ -1,17 +1,19 @@
--- What the C interface hands over: each call's refusal number, and its results through pointers.
+-- What the C interface hands over: each call's refusal number, and its results through pointers. Assumes nothing.
 use mathlib.Core.Path.{_≡_}
 use mathlib.Core.Bool.{Bool, cond}
-use mathlib.Core.List.{List, [], _∷_}
-use Prim.Native.Nat.{ℕ, _<_}
-use lib.IntN.{ℤ, pos}
+use mathlib.Core.List.{List}
+use Prim.Native.Nat.{ℕ}
 use lib.Ieee.{Float}
+use lib.ListN.{length}
 use Rattle.fixed_point.specs.declared.Reading.{Reading}
 use Rattle.fixed_point.specs.declared.Weights.{Weights}
+use Rattle.deck.specs.Deck.{Deck, Query}
+use Rattle.deck.specs.Answers.{numberOf}
+use Rattle.deck.specs.Search.{searchAnswer, Searches}
 use Rattle.deck.specs.declared.Found.{Found}
 use Rattle.deck.specs.declared.Found.the-variants.{Count, Refused as FoundRefused, Short}
 use Rattle.measure.specs.Answers.{refusalOf, differenceOf}
 use Rattle.measure.specs.declared.Difference.{Difference}
-use Rattle.measure.specs.declared.FigureList.{FigureList}
 
 abbrev pub reading : Float → Float → Float → Reading
 reading x y z = record { l = x; a = y; b = z }
@@ -34,29 +36,8 @@ handedCount (Count n) = n
 handedCount (FoundRefused k) = 0
 handedCount (Short n) = n
 
--- paper 01's figures in its order
-unfoldable pub figureRow : FigureList → List ℤ
-figureRow f =
-    pos (f .c1) ∷ f .a1 ∷ f .b1 ∷ pos (f .cp1) ∷ pos (f .h1) ∷
-    pos (f .c2) ∷ f .a2 ∷ f .b2 ∷ pos (f .cp2) ∷ pos (f .h2) ∷
-    pos (f .z) ∷ pos (f .far) ∷ f .hue ∷ pos (f .mean) ∷
-    pos (f .t) ∷ pos (f .sl) ∷ pos (f .sc) ∷ pos (f .sh) ∷ pos (f .r) ∷
-    f .l ∷ f .c ∷ f .h ∷ pos (f .difference) ∷ []
-
--- the figures that are not negative fit a signed number of 64 bits
-pub record Signable (f : FigureList) : Type 0 where
-  pub c1 : f .c1 < 9223372036854775808
-  pub cp1 : f .cp1 < 9223372036854775808
-  pub h1 : f .h1 < 9223372036854775808
-  pub c2 : f .c2 < 9223372036854775808
-  pub cp2 : f .cp2 < 9223372036854775808
-  pub h2 : f .h2 < 9223372036854775808
-  pub z : f .z < 9223372036854775808
-  pub far : f .far < 9223372036854775808
-  pub mean : f .mean < 9223372036854775808
-  pub t : f .t < 9223372036854775808
-  pub sl : f .sl < 9223372036854775808
-  pub sc : f .sc < 9223372036854775808
-  pub sh : f .sh < 9223372036854775808
-  pub r : f .r < 9223372036854775808
-  pub difference : f .difference < 9223372036854775808
+-- what a search hands over: the refusal's number, the count, and the list, of which `searched` says the rest
+pub record HandsSearch (q : Query) (d : Deck) (old new : List ℕ) (number count : ℕ) : Type 0 where
+  pub refusal : number ≡ numberOf (searchAnswer q d (length old))
+  pub handed : count ≡ handedCount (searchAnswer q d (length old))
+  pub searched : Searches q d old new (searchAnswer q d (length old))

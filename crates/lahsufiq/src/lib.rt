@@ -1,24 +1,23 @@
 // The C interface: the public calls as functions for `rt staticlib lahsufiq`, declared in
 // include/lahsufiq.h. Each returns the refusal's number, 0 for an answer.
 ghost use mathlib.Core.Path.{_≡_};
-ghost use Prim.Native.Nat.{_≤_};
-ghost use lib.ListN.{length};
 ghost use Rattle.fixed_point.specs.Rounding.{fixedSize};
 ghost use Rattle.fixed_point.specs.Samples.{sampleOf, weightsOf};
-ghost use Rattle.difference.specs.Differences.{cie76Of, cie94Of, ciede2000Of, figuresOf, withinTolerance};
+ghost use Rattle.difference.specs.Cie76.{cie76Of};
+ghost use Rattle.difference.specs.Cie94.{cie94Of};
+ghost use Rattle.difference.specs.Ciede2000.{ciede2000Of, figuresOf};
+ghost use Rattle.difference.specs.Verdict.{withinTolerance};
 ghost use Rattle.measure.specs.Answers.{answerOf, refusalOf, differenceOf, yesOf, figuresAnswer};
 ghost use Rattle.measure.specs.Calls.{pairRefusal, weightedRefusal, verdictRefusal};
-ghost use Rattle.deck.specs.Deck.{columnsAt, searchRefusal};
-ghost use Rattle.deck.specs.Answers.{numberOf, countOf};
-ghost use Rattle.deck.specs.Search.{searchTally, searchAnswer, searchContents};
-ghost use Rattle.deck.specs.DemandThree.{DemandThree};
-ghost use Rattle.lahsufiq.specs.Interface.{reading, weights, oneOf, figureRow, handedCount, Hands, Signable};
+ghost use Rattle.deck.specs.Deck.{asked, columns};
+ghost use Rattle.deck.specs.Answers.{numberOf};
+ghost use Rattle.lahsufiq.specs.Interface.{reading, weights, oneOf, handedCount, Hands, HandsSearch};
 use deck::Found;
 use fixed_point::Reading;
 use fixed_point::Weights;
 use measure::Difference;
-use measure::FigureList;
 
+// The refusal's number of an answer, 0 for a difference.
 fn number(d: Difference) -> u32
     ensures { λ r. ⌜ r ≡ refusalOf d ⌝ }
 {
@@ -28,6 +27,7 @@ fn number(d: Difference) -> u32
     }
 }
 
+// The difference, 0 for a refusal.
 fn value(d: Difference) -> f64
     ensures { λ r. ⌜ r ≡ differenceOf d ⌝ }
 {
@@ -37,6 +37,7 @@ fn value(d: Difference) -> f64
     }
 }
 
+// CIE76 of two readings.
 #[no_mangle]
 pub extern "C" fn lq_cie76(
     l1: f32,
@@ -47,7 +48,11 @@ pub extern "C" fn lq_cie76(
     b2: f32,
     difference: &mut f64,
 ) -> u32
-    ensures { λ r. ⌜ Hands (answerOf (pairRefusal (reading l1 a1 b1) (reading l2 a2 b2)) (cie76Of (sampleOf (reading l1 a1 b1)) (sampleOf (reading l2 a2 b2)))) r (now (difference .exit)) ⌝ }
+    ensures { λ r.
+        let s = reading l1 a1 b1 in
+        let t = reading l2 a2 b2 in
+        let answer = answerOf (pairRefusal s t) (cie76Of (sampleOf s) (sampleOf t)) in
+        ⌜ Hands answer r (now (difference .exit)) ⌝ }
 {
     let s = Reading {
         l: l1,
@@ -64,6 +69,7 @@ pub extern "C" fn lq_cie76(
     number(d)
 }
 
+// CIE94 of two readings, with the constants for textiles where asked.
 #[no_mangle]
 pub extern "C" fn lq_cie94(
     l1: f32,
@@ -78,7 +84,12 @@ pub extern "C" fn lq_cie94(
     textile: bool,
     difference: &mut f64,
 ) -> u32
-    ensures { λ r. ⌜ Hands (answerOf (weightedRefusal (reading l1 a1 b1) (reading l2 a2 b2) (weights kl kc kh)) (cie94Of textile (weightsOf (weights kl kc kh)) (sampleOf (reading l1 a1 b1)) (sampleOf (reading l2 a2 b2)))) r (now (difference .exit)) ⌝ }
+    ensures { λ r.
+        let s = reading l1 a1 b1 in
+        let t = reading l2 a2 b2 in
+        let w = weights kl kc kh in
+        let answer = answerOf (weightedRefusal s t w) (cie94Of textile (weightsOf w) (sampleOf s) (sampleOf t)) in
+        ⌜ Hands answer r (now (difference .exit)) ⌝ }
 {
     let s = Reading {
         l: l1,
@@ -100,6 +111,7 @@ pub extern "C" fn lq_cie94(
     number(d)
 }
 
+// CIEDE2000 of two readings.
 #[no_mangle]
 pub extern "C" fn lq_ciede2000(
     l1: f32,
@@ -113,7 +125,12 @@ pub extern "C" fn lq_ciede2000(
     kh: f32,
     difference: &mut f64,
 ) -> u32
-    ensures { λ r. ⌜ Hands (answerOf (weightedRefusal (reading l1 a1 b1) (reading l2 a2 b2) (weights kl kc kh)) (ciede2000Of (weightsOf (weights kl kc kh)) (sampleOf (reading l1 a1 b1)) (sampleOf (reading l2 a2 b2)))) r (now (difference .exit)) ⌝ }
+    ensures { λ r.
+        let s = reading l1 a1 b1 in
+        let t = reading l2 a2 b2 in
+        let w = weights kl kc kh in
+        let answer = answerOf (weightedRefusal s t w) (ciede2000Of (weightsOf w) (sampleOf s) (sampleOf t)) in
+        ⌜ Hands answer r (now (difference .exit)) ⌝ }
 {
     let s = Reading {
         l: l1,
@@ -135,12 +152,14 @@ pub extern "C" fn lq_ciede2000(
     number(d)
 }
 
+// 1 for yes and 0 for no.
 fn one(t: bool) -> u8
     ensures { λ r. ⌜ r ≡ oneOf t ⌝ }
 {
     if t { 1 } else { 0 }
 }
 
+// CIEDE2000 of two readings, and 1 where it is at most the tolerance, else 0.
 #[no_mangle]
 pub extern "C" fn lq_verdict(
     l1: f32,
@@ -156,8 +175,19 @@ pub extern "C" fn lq_verdict(
     difference: &mut f64,
     within: &mut u8,
 ) -> u32
-    ensures { λ r. ⌜ Hands (answerOf (verdictRefusal (reading l1 a1 b1) (reading l2 a2 b2) (weights kl kc kh) tolerance) (ciede2000Of (weightsOf (weights kl kc kh)) (sampleOf (reading l1 a1 b1)) (sampleOf (reading l2 a2 b2)))) r (now (difference .exit)) ⌝ }
-    ensures { λ r. ⌜ now (within .exit) ≡ oneOf (yesOf (verdictRefusal (reading l1 a1 b1) (reading l2 a2 b2) (weights kl kc kh) tolerance) (withinTolerance (ciede2000Of (weightsOf (weights kl kc kh)) (sampleOf (reading l1 a1 b1)) (sampleOf (reading l2 a2 b2))) (fixedSize tolerance))) ⌝ }
+    ensures difference { λ r.
+        let s = reading l1 a1 b1 in
+        let t = reading l2 a2 b2 in
+        let w = weights kl kc kh in
+        let millionths = ciede2000Of (weightsOf w) (sampleOf s) (sampleOf t) in
+        ⌜ Hands (answerOf (verdictRefusal s t w tolerance) millionths) r (now (difference .exit)) ⌝ }
+    ensures within { λ _.
+        let s = reading l1 a1 b1 in
+        let t = reading l2 a2 b2 in
+        let w = weights kl kc kh in
+        let millionths = ciede2000Of (weightsOf w) (sampleOf s) (sampleOf t) in
+        let yes = withinTolerance millionths (fixedSize tolerance) in
+        ⌜ now (within .exit) ≡ oneOf (yesOf (verdictRefusal s t w tolerance) yes) ⌝ }
 {
     let s = Reading {
         l: l1,
@@ -181,38 +211,7 @@ pub extern "C" fn lq_verdict(
     number(d)
 }
 
-// The figures as signed numbers, in their order.
-fn row(f: FigureList) -> [i64; 23]
-    requires { ⌜ Signable f ⌝ }
-    ensures { λ r. ⌜ r ≡ figureRow f ⌝ }
-{
-    [
-        f.c1 as i64,
-        f.a1,
-        f.b1,
-        f.cp1 as i64,
-        f.h1 as i64,
-        f.c2 as i64,
-        f.a2,
-        f.b2,
-        f.cp2 as i64,
-        f.h2 as i64,
-        f.z as i64,
-        f.far as i64,
-        f.hue,
-        f.mean as i64,
-        f.t as i64,
-        f.sl as i64,
-        f.sc as i64,
-        f.sh as i64,
-        f.r as i64,
-        f.l,
-        f.c,
-        f.h,
-        f.difference as i64,
-    ]
-}
-
+// The 23 figures of the working of CIEDE2000.
 #[no_mangle]
 pub extern "C" fn lq_figures(
     l1: f32,
@@ -226,8 +225,13 @@ pub extern "C" fn lq_figures(
     kh: f32,
     figures: &mut [i64; 23],
 ) -> u32
-    ensures { λ r. ⌜ r ≡ weightedRefusal (reading l1 a1 b1) (reading l2 a2 b2) (weights kl kc kh) ⌝ }
-    ensures { λ r. ⌜ now (figures .exit) ≡ figureRow (figuresAnswer (weightedRefusal (reading l1 a1 b1) (reading l2 a2 b2) (weights kl kc kh)) (figuresOf (weightsOf (weights kl kc kh)) (sampleOf (reading l1 a1 b1)) (sampleOf (reading l2 a2 b2)))) ⌝ }
+    ensures number { λ r. ⌜ r ≡ weightedRefusal (reading l1 a1 b1) (reading l2 a2 b2) (weights kl kc kh) ⌝ }
+    ensures figures { λ _.
+        let s = reading l1 a1 b1 in
+        let t = reading l2 a2 b2 in
+        let w = weights kl kc kh in
+        let row = figuresAnswer (weightedRefusal s t w) (figuresOf (weightsOf w) (sampleOf s) (sampleOf t)) in
+        ⌜ now (figures .exit) ≡ row ⌝ }
 {
     let s = Reading {
         l: l1,
@@ -245,11 +249,12 @@ pub extern "C" fn lq_figures(
         h: kh,
     };
     let answer = measure::figures(s, t, w);
-    let list = answer.list;
-    *figures = row(list);
+    let row = answer.row;
+    *figures = row;
     answer.refusal as u32
 }
 
+// The refusal's number, 0 for a count.
 fn found_number(f: Found) -> u32
     ensures { λ r. ⌜ r ≡ numberOf f ⌝ }
 {
@@ -287,14 +292,10 @@ pub extern "C" fn lq_search(
     places: &mut [u16],
     count: &mut usize,
 ) -> u32
-    ensures number { λ r. ⌜ r ≡ numberOf (searchAnswer (reading rl ra rb) (weights kl kc kh) tolerance (now (l .entry)) (now (a .entry)) (now (b .entry)) (length (now (places .entry)))) ⌝ }
-    ensures count { λ r. ⌜ now (count .exit) ≡ handedCount (searchAnswer (reading rl ra rb) (weights kl kc kh) tolerance (now (l .entry)) (now (a .entry)) (now (b .entry)) (length (now (places .entry)))) ⌝ }
-    ensures contents { λ r. ⌜ now (places .exit) ≡ searchContents (reading rl ra rb) (weights kl kc kh) tolerance (now (l .entry)) (now (a .entry)) (now (b .entry)) (now (places .entry)) ⌝ }
-    ensures listed { λ r. ⌜ (searchRefusal (reading rl ra rb) (weights kl kc kh) tolerance (now (l .entry)) (now (a .entry)) (now (b .entry)) ≡ 0
-        → searchTally (reading rl ra rb) (weights kl kc kh) tolerance (now (l .entry)) (now (a .entry)) (now (b .entry)) ≤ length (now (places .entry))
-        → DemandThree (weightsOf (weights kl kc kh)) (sampleOf (reading rl ra rb)) (fixedSize tolerance) (columnsAt (now (l .entry)) (now (a .entry)) (now (b .entry)))
-        (length (now (l .entry))) (countOf (searchAnswer (reading rl ra rb) (weights kl kc kh) tolerance (now (l .entry)) (now (a .entry)) (now (b .entry)) (length (now (places .entry)))))
-        (now (places .entry)) (now (places .exit))) ⌝ }
+    ensures search { λ r.
+        let deck = columns (now (l .entry)) (now (a .entry)) (now (b .entry)) in
+        let query = asked (reading rl ra rb) (weights kl kc kh) tolerance in
+        ⌜ HandsSearch query deck (now (places .entry)) (now (places .exit)) r (now (count .exit)) ⌝ }
     ensures columns { λ _. ⌜ (now (l .exit) ≡ now (l .entry))
         × ((now (a .exit) ≡ now (a .entry)) × (now (b .exit) ≡ now (b .entry))) ⌝ }
 {

@@ -1,14 +1,13 @@
--- What a public call answers: a difference as a double, or a refusal by paper 01's number.
+-- What a public call answers: a difference as a double, or a refusal by its number. Assumes nothing.
 use Prim.Native.Nat.{ℕ, zero, suc}
-use mathlib.Core.Bool.{Bool, true, false, cond}
-use lib.IntN.{pos}
+use mathlib.Core.Bool.{Bool, false, cond}
+use mathlib.Core.List.{List, [], _∷_}
+use lib.IntN.{ℤ, pos}
+use lib.ListN.{replicate}
 use lib.Ieee.{Float, fin, binary64, ofInt, div}
-use Rattle.difference.specs.Parts.{Parts}
-use Rattle.difference.specs.Pair.{Point}
-use Rattle.difference.specs.Differences.{Figures}
+use Rattle.difference.specs.Ciede2000.{Figures}
 use Rattle.measure.specs.declared.Difference.{Difference}
 use Rattle.measure.specs.declared.Difference.the-variants.{Of, Refused}
-use Rattle.measure.specs.declared.FigureList.{FigureList}
 
 -- the whole count of millionths, made a double and divided once by 1,000,000
 unfoldable pub doubleOf : ℕ → Float
@@ -19,7 +18,7 @@ unfoldable pub answerOf : ℕ → ℕ → Difference
 answerOf zero n = Of (doubleOf n)
 answerOf (suc k) n = Refused (suc k)
 
--- paper 01's refusal number of an answer: 0 for a difference
+-- the refusal number of an answer: 0 for a difference
 abbrev pub refusalOf : Difference → ℕ
 refusalOf (Of d) = 0
 refusalOf (Refused k) = k
@@ -34,64 +33,20 @@ unfoldable pub yesOf : ℕ → Bool → Bool
 yesOf zero yes? = yes?
 yesOf (suc k) yes? = false
 
--- the figures of paper 01's second call in its order; far is 1 or 0
-unfoldable pub figureList : Figures → FigureList
-figureList f =
-    record {
-      c1 = f .c1;
-      a1 = f .p1 .a;
-      b1 = f .p1 .b;
-      cp1 = f .p1 .c;
-      h1 = f .h1;
-      c2 = f .c2;
-      a2 = f .p2 .a;
-      b2 = f .p2 .b;
-      cp2 = f .p2 .c;
-      h2 = f .h2;
-      z = f .z;
-      far = cond (f .far) 1 0;
-      hue = f .hue;
-      mean = f .mean;
-      t = f .terms .t;
-      sl = f .terms .sl;
-      sc = f .terms .sc;
-      sh = f .terms .sh;
-      r = f .terms .r;
-      l = f .parts .l;
-      c = f .parts .c;
-      h = f .parts .h;
-      difference = f .difference;
-    }
+-- ---- the figures of CIEDE2000: chroma, a', b' and the hue difference in 10^-7, hues in 10^-6 degree, ratios in 10^-9, the
+-- parts and the difference in 10^-6
 
-unfoldable pub noFigures : FigureList
-noFigures =
-    record {
-      c1 = 0;
-      a1 = pos 0;
-      b1 = pos 0;
-      cp1 = 0;
-      h1 = 0;
-      c2 = 0;
-      a2 = pos 0;
-      b2 = pos 0;
-      cp2 = 0;
-      h2 = 0;
-      z = 0;
-      far = 0;
-      hue = pos 0;
-      mean = 0;
-      t = 0;
-      sl = 0;
-      sc = 0;
-      sh = 0;
-      r = 0;
-      l = pos 0;
-      c = pos 0;
-      h = pos 0;
-      difference = 0;
-    }
+-- in their order: C, a', b', C' and hue of sample 1, then of sample 2; Z(C1 + C2), far (1 or 0), H, mean hue; T, SL, SC, SH, R;
+-- the signed parts l, c, h and CIEDE2000
+unfoldable pub figuresRow : Figures → List ℤ
+figuresRow f =
+    pos (f .c1) ∷ f .p1 .a ∷ f .p1 .b ∷ pos (f .p1 .c) ∷ pos (f .h1) ∷
+    pos (f .c2) ∷ f .p2 .a ∷ f .p2 .b ∷ pos (f .p2 .c) ∷ pos (f .h2) ∷
+    pos (f .z) ∷ pos (cond (f .far) 1 0) ∷ f .hueDifference ∷ pos (f .mean) ∷
+    pos (f .terms .t) ∷ pos (f .terms .sl) ∷ pos (f .terms .sc) ∷ pos (f .terms .sh) ∷ pos (f .terms .r) ∷
+    f .parts .l ∷ f .parts .c ∷ f .parts .h ∷ pos (f .difference) ∷ []
 
--- the figures, or all 0 for a refusal
-unfoldable pub figuresAnswer : ℕ → Figures → FigureList
-figuresAnswer zero f = figureList f
-figuresAnswer (suc k) f = noFigures
+-- the figures, or 23 zeros for a refusal
+unfoldable pub figuresAnswer : ℕ → Figures → List ℤ
+figuresAnswer zero f = figuresRow f
+figuresAnswer (suc k) f = replicate 23 (pos 0)

@@ -1,8 +1,10 @@
 -- The refusal of each public call: the first that applies, of sample 1, sample 2, the weights and the tolerance, in this order.
+-- Assumes nothing.
 use Prim.Native.Nat.{ℕ}
-use mathlib.Core.List.{List, [], _∷_}
+use mathlib.Core.List.{[], _∷_}
 use lib.Ieee.{Float}
-use Rattle.fixed_point.specs.Refusals.{readingRefusal, weightsRefusal, toleranceRefusal, firstRefusal}
+use Rattle.fixed_point.specs.Refusals.{readingRefusal, weightsRefusal, toleranceRefusal}
+use Rattle.sample.specs.Refusals.{firstRefusal}
 use Rattle.fixed_point.specs.declared.Reading.{Reading}
 use Rattle.fixed_point.specs.declared.Weights.{Weights}
 
@@ -13,4 +15,5 @@ unfoldable pub weightedRefusal : Reading → Reading → Weights → ℕ
 weightedRefusal s t w = firstRefusal (readingRefusal s ∷ readingRefusal t ∷ weightsRefusal w ∷ [])
 
 unfoldable pub verdictRefusal : Reading → Reading → Weights → Float → ℕ
-verdictRefusal s t w tolerance = firstRefusal (readingRefusal s ∷ readingRefusal t ∷ weightsRefusal w ∷ toleranceRefusal tolerance ∷ [])
+verdictRefusal s t w tolerance =
+    firstRefusal (readingRefusal s ∷ readingRefusal t ∷ weightsRefusal w ∷ toleranceRefusal tolerance ∷ [])

@@ -2,7 +2,7 @@
 use mathlib.Core.Path.{_≡_}
 use Prim.Native.Nat.{ℕ}
 use Rattle.measure.specs.Answers.{answerOf, yesOf}
-use Rattle.difference.specs.Differences.{withinTolerance}
+use Rattle.difference.specs.Verdict.{withinTolerance}
 use Rattle.measure.specs.declared.Judgement.{Judgement}
 
 -- r is the verdict on a difference in millionths and a tolerance in 1/10,000, or the refusal

@@ -1,18 +1,21 @@
 // The public calls on readings: the three colour differences, the figures on the way to CIEDE2000
 // and the verdict against a tolerance. Every float is answered or refused.
 ghost use mathlib.Core.Path.{_≡_};
-ghost use mathlib.Core.Bool.{Bool, cond};
-ghost use Prim.Native.Nat.{_<_};
+ghost use mathlib.Core.Bool.{cond};
+ghost use lib.IntN.{pos};
+ghost use Prim.Native.Nat.{_≤_};
 ghost use Rattle.fixed_point.specs.Rounding.{fixedSize};
 ghost use Rattle.fixed_point.specs.Refusals.{readingRefusal};
 ghost use Rattle.fixed_point.specs.Samples.{sampleOf, weightsOf};
-ghost use Rattle.difference.specs.Differences.{cie76Of, cie94Of, figuresOf, ciede2000Of};
-ghost use Rattle.difference.specs.Carried.{workedFigures, Prepares, Works, Millionths};
-ghost use Rattle.measure.specs.Answers.{doubleOf, answerOf, figureList, noFigures, figuresAnswer};
+ghost use Rattle.difference.specs.Cie76.{cie76Of};
+ghost use Rattle.difference.specs.Cie94.{cie94Of};
+ghost use Rattle.difference.specs.Ciede2000.{figuresOf, ciede2000Of};
+ghost use Rattle.difference.specs.Inner.{intermediateFigures, IsPrepared, IsFigures, FiguresIn, Millionths};
+ghost use Rattle.measure.specs.Answers.{doubleOf, answerOf, figuresRow, figuresAnswer};
 ghost use Rattle.measure.specs.Calls.{pairRefusal, weightedRefusal, verdictRefusal};
 ghost use Rattle.measure.specs.Judged.{Judged};
-use difference::Prepared;
-use difference::Worked;
+use difference::ciede2000::Intermediates;
+use difference::prepared::Prepared;
 use fixed_point::Reading;
 use fixed_point::Weights;
 
@@ -28,75 +31,49 @@ pub struct Judgement {
     pub within: bool,
 }
 
-// The figures of the working of CIEDE2000, in whole numbers: chroma, a', b' and the hue part in
-// 10^-7, hues in 10^-6 degree, ratios in 10^-9, the parts and the difference in 10^-6.
-pub struct FigureList {
-    pub c1: u64,
-    pub a1: i64,
-    pub b1: i64,
-    pub cp1: u64,
-    pub h1: u64,
-    pub c2: u64,
-    pub a2: i64,
-    pub b2: i64,
-    pub cp2: u64,
-    pub h2: u64,
-    pub z: u64,
-    pub far: u64,
-    pub hue: i64,
-    pub mean: u64,
-    pub t: u64,
-    pub sl: u64,
-    pub sc: u64,
-    pub sh: u64,
-    pub r: u64,
-    pub l: i64,
-    pub c: i64,
-    pub h: i64,
-    pub difference: u64,
-}
-
+// The refusal's number, 0 for none, and the 23 figures of the working of CIEDE2000, in whole numbers:
+// `figuresRow` has their order and units. A refusal has 23 zeros.
 pub struct FigureAnswer {
     pub refusal: u8,
-    pub list: FigureList,
+    pub row: [i64; 23],
 }
 
 // Millionths as a double: the count is cast exactly, and divided once.
 fn double(n: u64) -> f64
-    requires { ⌜ n < 4294967296 ⌝ }
+    requires { ⌜ n ≤ 1400000000 ⌝ }
     ensures { λ r. ⌜ r ≡ doubleOf n ⌝ }
 {
     (n as f64) / 1000000.0
 }
 
+// The first that applies of refusals 1 to 3 of two readings, or 0.
 fn pair_refusal(s: Reading, t: Reading) -> u8
     ensures { λ n. ⌜ n ≡ pairRefusal s t ⌝ }
 {
-    fixed_point::first_of(
-        fixed_point::reading_refusal(s),
-        fixed_point::reading_refusal(t),
-    )
+    let by_first = fixed_point::reading_refusal(s);
+    let by_second = fixed_point::reading_refusal(t);
+    sample::first_of(by_first, by_second)
 }
 
+// The same, and 4.
 fn weighted_refusal(s: Reading, t: Reading, w: Weights) -> u8
     ensures { λ n. ⌜ n ≡ weightedRefusal s t w ⌝ }
 {
-    let weights = fixed_point::weights_refusal(w);
-    let sample = fixed_point::first_of(fixed_point::reading_refusal(t), weights);
-    fixed_point::first_of(fixed_point::reading_refusal(s), sample)
+    let by_readings = pair_refusal(s, t);
+    let by_weights = fixed_point::weights_refusal(w);
+    sample::first_of(by_readings, by_weights)
 }
 
+// The same, and 5.
 fn verdict_refusal(s: Reading, t: Reading, w: Weights, tolerance: f32) -> u8
     ensures { λ n. ⌜ n ≡ verdictRefusal s t w tolerance ⌝ }
 {
-    let weights = fixed_point::first_of(
-        fixed_point::weights_refusal(w),
-        fixed_point::tolerance_refusal(tolerance),
-    );
-    let sample = fixed_point::first_of(fixed_point::reading_refusal(t), weights);
-    fixed_point::first_of(fixed_point::reading_refusal(s), sample)
+    let by_pair = weighted_refusal(s, t, w);
+    let by_tolerance = fixed_point::tolerance_refusal(tolerance);
+    sample::first_of(by_pair, by_tolerance)
 }
 
+// CIE76 of two readings.
 pub fn cie76(standard: Reading, sample: Reading) -> Difference
     ensures { λ r. ⌜ r ≡ answerOf (pairRefusal standard sample) (cie76Of (sampleOf standard) (sampleOf sample)) ⌝ }
 {
@@ -106,18 +83,22 @@ pub fn cie76(standard: Reading, sample: Reading) -> Difference
     }
     let s = fixed_point::fixed_reading(standard);
     let t = fixed_point::fixed_reading(sample);
-    Difference::Of(double(difference::cie76(s, t)))
+    Difference::Of(double(difference::cie76::cie76(s, t)))
 }
 
+// The sample of an accepted reading, with what depends on it alone.
 fn prepared(r: Reading) -> Prepared
     requires { ⌜ readingRefusal r ≡ 0 ⌝ }
-    ensures { λ p. ⌜ Prepares (sampleOf r) p ⌝ }
+    ensures { λ p. ⌜ IsPrepared (sampleOf r) p ⌝ }
 {
-    difference::prepare(fixed_point::fixed_reading(r))
+    difference::prepared::prepare(fixed_point::fixed_reading(r))
 }
 
+// CIE94 of two readings; `textile` takes the constants for textiles, 48 and 14 for 45 and 15.
 pub fn cie94(standard: Reading, sample: Reading, weights: Weights, textile: bool) -> Difference
-    ensures { λ r. ⌜ r ≡ answerOf (weightedRefusal standard sample weights) (cie94Of textile (weightsOf weights) (sampleOf standard) (sampleOf sample)) ⌝ }
+    ensures { λ r.
+        let refusal = weightedRefusal standard sample weights in
+        ⌜ r ≡ answerOf refusal (cie94Of textile (weightsOf weights) (sampleOf standard) (sampleOf sample)) ⌝ }
 {
     let refusal = weighted_refusal(standard, sample, weights);
     if refusal != 0 {
@@ -126,7 +107,7 @@ pub fn cie94(standard: Reading, sample: Reading, weights: Weights, textile: bool
     let w = fixed_point::fixed_weights(weights);
     let s = prepared(standard);
     let t = prepared(sample);
-    Difference::Of(double(difference::cie94(w, textile, s, t)))
+    Difference::Of(double(difference::cie94::cie94(w, textile, s, t)))
 }
 
 // CIEDE2000 of an accepted pair, in millionths.
@@ -139,14 +120,20 @@ fn millionths(standard: Reading, sample: Reading, weights: Weights) -> u64
     let t = prepared(sample);
     let sines = sine::sine_table();
     let gaussians = gaussian::gaussian_table();
-    difference::ciede2000(&sines, &gaussians, w, s, t)
+    difference::ciede2000::ciede2000(&sines, &gaussians, w, s, t)
 }
 
-// The same with the samples exchanged, and zero for samples that round to the same.
+// CIEDE2000 of two readings: the same with the samples exchanged, and zero for samples that round to the same.
 pub fn ciede2000(standard: Reading, sample: Reading, weights: Weights) -> Difference
-    ensures is { λ r. ⌜ r ≡ answerOf (weightedRefusal standard sample weights) (ciede2000Of (weightsOf weights) (sampleOf standard) (sampleOf sample)) ⌝ }
-    ensures symmetric { λ r. ⌜ r ≡ answerOf (weightedRefusal standard sample weights) (ciede2000Of (weightsOf weights) (sampleOf sample) (sampleOf standard)) ⌝ }
-    ensures zero { λ r. ⌜ (weightedRefusal standard sample weights ≡ 0 → sampleOf standard ≡ sampleOf sample → r ≡ Difference.Of (doubleOf 0)) ⌝ }
+    ensures is { λ r.
+        let refusal = weightedRefusal standard sample weights in
+        ⌜ r ≡ answerOf refusal (ciede2000Of (weightsOf weights) (sampleOf standard) (sampleOf sample)) ⌝ }
+    ensures symmetric { λ r.
+        let refusal = weightedRefusal standard sample weights in
+        ⌜ r ≡ answerOf refusal (ciede2000Of (weightsOf weights) (sampleOf sample) (sampleOf standard)) ⌝ }
+    ensures zero { λ r.
+        let refusal = weightedRefusal standard sample weights in
+        ⌜ (refusal ≡ 0 → sampleOf standard ≡ sampleOf sample → r ≡ Difference.Of (doubleOf 0)) ⌝ }
 {
     let refusal = weighted_refusal(standard, sample, weights);
     if refusal != 0 {
@@ -155,8 +142,12 @@ pub fn ciede2000(standard: Reading, sample: Reading, weights: Weights) -> Differ
     Difference::Of(double(millionths(standard, sample, weights)))
 }
 
+// CIEDE2000 of two readings, and whether it is at most the tolerance.
 pub fn verdict(standard: Reading, sample: Reading, weights: Weights, tolerance: f32) -> Judgement
-    ensures { λ r. ⌜ Judged (verdictRefusal standard sample weights tolerance) (ciede2000Of (weightsOf weights) (sampleOf standard) (sampleOf sample)) (fixedSize tolerance) r ⌝ }
+    ensures { λ r.
+        let refusal = verdictRefusal standard sample weights tolerance in
+        let millionths = ciede2000Of (weightsOf weights) (sampleOf standard) (sampleOf sample) in
+        ⌜ Judged refusal millionths (fixedSize tolerance) r ⌝ }
 {
     let refusal = verdict_refusal(standard, sample, weights, tolerance);
     if refusal != 0 {
@@ -168,90 +159,76 @@ pub fn verdict(standard: Reading, sample: Reading, weights: Weights, tolerance: 
     let n = millionths(standard, sample, weights);
     Judgement {
         difference: Difference::Of(double(n)),
-        within: difference::within_tolerance(n, fixed_point::fixed_tolerance(tolerance)),
+        within: difference::verdict::within_tolerance(n, fixed_point::fixed_tolerance(tolerance)),
     }
 }
 
-fn far_number(far: bool) -> u64
-    ensures { λ r. ⌜ r ≡ cond far 1 0 ⌝ }
+// 1 for far and 0 for not far.
+fn far_number(far: bool) -> i64
+    ensures { λ r. ⌜ r ≡ pos (cond far 1 0) ⌝ }
 {
     if far { 1 } else { 0 }
 }
 
-fn listed(r: Worked) -> FigureList
-    requires { ⌜ Works (workedFigures r) r ⌝ }
-    ensures { λ l. ⌜ l ≡ figureList (workedFigures r) ⌝ }
+// The figures as signed numbers, in their order.
+fn figures_row(r: Intermediates) -> [i64; 23]
+    requires { ⌜ IsFigures (intermediateFigures r) r ⌝ }
+    requires { ⌜ FiguresIn (intermediateFigures r) ⌝ }
+    ensures { λ row. ⌜ row ≡ figuresRow (intermediateFigures r) ⌝ }
 {
     let p1 = r.p1;
     let p2 = r.p2;
     let hues = r.hues;
-    let terms = r.terms;
+    let e = r.terms;
     let parts = r.parts;
-    FigureList {
-        c1: r.c1,
-        a1: signed::to_i64(p1.a),
-        b1: signed::to_i64(p1.b),
-        cp1: p1.chroma,
-        h1: hues.h1,
-        c2: r.c2,
-        a2: signed::to_i64(p2.a),
-        b2: signed::to_i64(p2.b),
-        cp2: p2.chroma,
-        h2: hues.h2,
-        z: r.z,
-        far: far_number(hues.far),
-        hue: signed::to_i64(hues.hue),
-        mean: hues.mean,
-        t: terms.t,
-        sl: terms.sl,
-        sc: terms.sc,
-        sh: terms.sh,
-        r: terms.r,
-        l: signed::to_i64(parts.l),
-        c: signed::to_i64(parts.c),
-        h: signed::to_i64(parts.h),
-        difference: r.difference,
-    }
+    let a1 = signed::to_i64(p1.a);
+    let b1 = signed::to_i64(p1.b);
+    let a2 = signed::to_i64(p2.a);
+    let b2 = signed::to_i64(p2.b);
+    let hue_difference = signed::to_i64(hues.difference);
+    let l = signed::to_i64(parts.l);
+    let c = signed::to_i64(parts.c);
+    let h = signed::to_i64(parts.h);
+    let far = far_number(hues.far);
+    [
+        r.c1 as i64,
+        a1,
+        b1,
+        p1.chroma as i64,
+        hues.h1 as i64,
+        r.c2 as i64,
+        a2,
+        b2,
+        p2.chroma as i64,
+        hues.h2 as i64,
+        r.z as i64,
+        far,
+        hue_difference,
+        hues.mean as i64,
+        e.t as i64,
+        e.sl as i64,
+        e.sc as i64,
+        e.sh as i64,
+        e.r as i64,
+        l,
+        c,
+        h,
+        r.difference as i64,
+    ]
 }
 
-fn no_figures() -> FigureList
-    ensures { λ l. ⌜ l ≡ noFigures ⌝ }
-{
-    FigureList {
-        c1: 0,
-        a1: 0,
-        b1: 0,
-        cp1: 0,
-        h1: 0,
-        c2: 0,
-        a2: 0,
-        b2: 0,
-        cp2: 0,
-        h2: 0,
-        z: 0,
-        far: 0,
-        hue: 0,
-        mean: 0,
-        t: 0,
-        sl: 0,
-        sc: 0,
-        sh: 0,
-        r: 0,
-        l: 0,
-        c: 0,
-        h: 0,
-        difference: 0,
-    }
-}
-
+// The figures of the working of CIEDE2000 on the way from two readings to their difference.
 pub fn figures(standard: Reading, sample: Reading, weights: Weights) -> FigureAnswer
-    ensures { λ r. ⌜ (r .refusal ≡ weightedRefusal standard sample weights) × (r .list ≡ figuresAnswer (weightedRefusal standard sample weights) (figuresOf (weightsOf weights) (sampleOf standard) (sampleOf sample))) ⌝ }
+    ensures refusal { λ r. ⌜ r .refusal ≡ weightedRefusal standard sample weights ⌝ }
+    ensures row { λ r.
+        let refusal = weightedRefusal standard sample weights in
+        ⌜ r .row ≡ figuresAnswer refusal (figuresOf (weightsOf weights) (sampleOf standard) (sampleOf sample)) ⌝ }
 {
     let refusal = weighted_refusal(standard, sample, weights);
     if refusal != 0 {
         return FigureAnswer {
             refusal,
-            list: no_figures(),
+            row: [0i64; 23],
         };
     }
     let w = fixed_point::fixed_weights(weights);
@@ -259,9 +236,9 @@ pub fn figures(standard: Reading, sample: Reading, weights: Weights) -> FigureAn
     let t = prepared(sample);
     let sines = sine::sine_table();
     let gaussians = gaussian::gaussian_table();
-    let r = difference::figures(&sines, &gaussians, w, s, t);
+    let r = difference::ciede2000::figures(&sines, &gaussians, w, s, t);
     FigureAnswer {
         refusal: 0,
-        list: listed(r),
+        row: figures_row(r),
     }
 }

@@ -1,9 +1,8 @@
-// Paper 01's text program: reads pairs of samples from standard input, a line each, and writes a
+// The text program: reads pairs of samples from standard input, a line each, and writes a
 // header and for each line its figures or its refusal. Every byte that it writes is text's.
 ghost use mathlib.Core.Path.{_≡_};
 ghost use mathlib.Core.Bool.{true};
-ghost use Rattle.text.specs.Stream.{heldAfter};
-ghost use Rattle.text.specs.Carried.{stateHeld};
+ghost use Rattle.text.specs.Stream.{heldAfter, stateHeld};
 use libc::STDIN_FILENO;
 use libc::STDOUT_FILENO;
 use text::State;
@@ -14,9 +13,10 @@ struct Answered {
     written: bool,
 }
 
-// The buffer is written each time that it is full.
+// Answers a piece of the input. The buffer is written each time that it is full.
 fn answer(start: State, chunk: &[u8], out: &mut [u8]) -> Answered
-    ensures { λ r. ⌜ (r .written ≡ true → stateHeld (r .state) ≡ heldAfter (stateHeld start) (now (chunk .entry))) ⌝ }
+    ensures { λ r. ⌜ (r .written ≡ true
+        → stateHeld (r .state) ≡ heldAfter (stateHeld start) (now (chunk .entry))) ⌝ }
 {
     let mut state = start;
     let mut from = 0;

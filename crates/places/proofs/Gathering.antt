@@ -1,12 +1,13 @@
--- A search that gathers the places of a window into a scratch list, one test a place, and copies them to the front of another list: what a turn keeps, and what the copy holds. Assumes nothing.
+-- A search that gathers the places of a window into a scratch list, one test a place: what a turn keeps.
+-- Assumes nothing.
 use mathlib.Core.Path.{_≡_, sym, ap, ap₂, _∙_}
 use mathlib.Core.Bool.{Bool, true, false}
 use mathlib.Core.List.{List, [], _++_, append-nil}
 use Prim.Native.Nat.{ℕ, _+_, _-_, _≤_, _<_, zero-le}
 use native.Mathlib.Numerals.{add-one}
 use native.Mathlib.Omega.{arith}
-use lib.ListN.{length, getD, set, take, drop}
-use lib.Seq.{length-take-le, take-suc-set, take-at, getD-append-add, getD-drop}
+use lib.ListN.{length, set, take}
+use lib.Seq.{take-suc-set}
 use Rattle.places.specs.Places.{keep, hits}
 use Rattle.places.proofs.PlacesLaws.{keep-true, keep-false, hits-zero, hits-more}
 
@@ -33,7 +34,8 @@ module _ (f : ℕ → Bool) (lo : ℕ) (found : List ℕ) where
     gathered-hit h l = record {
       start = omega arith;
       most = omega arith;
-      is = ap (λ m. take m (set found n i)) (add-one n) ∙ take-suc-set found n i l ∙ ap₂ _++_ (g .is) (sym (keep-true (f i) i [] h)) ∙ sym next;
+      is = ap (λ m. take m (set found n i)) (add-one n) ∙ take-suc-set found n i l
+          ∙ ap₂ _++_ (g .is) (sym (keep-true (f i) i [] h)) ∙ sym next;
     }
 
     pub gathered-miss : f i ≡ false → Gathered f lo (i + 1) n found
@@ -42,19 +44,3 @@ module _ (f : ℕ → Bool) (lo : ℕ) (found : List ℕ) where
       most = omega arith;
       is = g .is ∙ sym (append-nil _) ∙ ap (λ l. hits f lo (i - lo) ++ l) (sym (keep-false (f i) i [] h)) ∙ sym next;
     }
-
--- n is the number of the places that the first n entries are
-pub gathered-count : (found places : List ℕ) (n : ℕ) → n ≤ length found → take n found ≡ places → n ≡ length places
-gathered-count found places n l e = sym (length-take-le n found l) ∙ ap length e
-
--- ---- the first n entries of a, copied to the front of b
-
-module _ (a b : List ℕ) (n : ℕ) (l : n ≤ length a) where
-  pub copied-front : take n (take n a ++ drop n b) ≡ take n a
-  copied-front = take-at (take n a) (drop n b) n (length-take-le n a l)
-
-  pub copied-past : (i : ℕ) → n ≤ i → getD (take n a ++ drop n b) i 0 ≡ getD b i 0
-  copied-past i m =
-      let at : i ≡ length (take n a) + (i - n) = omega (arith, length-take-le n a l) in
-      let back : n + (i - n) ≡ i = omega arith in
-      ap (λ k. getD (take n a ++ drop n b) k 0) at ∙ getD-append-add (take n a) (drop n b) (i - n) 0 ∙ getD-drop n b (i - n) 0 ∙ ap (λ k. getD b k 0) back

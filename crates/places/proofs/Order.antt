@@ -1,12 +1,17 @@
--- The order of ℤ by its tests: `ltZ` and `leZ` as equations, as a branch of the code leaves them. Assumes nothing.
+-- The order of ℤ by its tests: `ltZ` and `leZ` as equations, as a branch of the code leaves them.
+-- And what is read back of a stored number. Assumes nothing.
 use mathlib.Core.Path.{_≡_, refl, sym, ap, _∙_}
 use mathlib.Core.Bool.{Bool, true, false, not, true≢false}
-use Prim.Native.Nat.{ℕ}
+use Prim.Native.Nat.{ℕ, _^_, _<_}
 use native.Mathlib.Nat.{le-refl, le-trans}
+use borrow.Author.Needs.{sfits-of}
 use borrow.Author.Tests.{leb-true, leb-false, le-leb, lt-ltb, le-ltb, not-true, not-false}
 use lib.Dec.{ltb, leb}
 use lib.IntN.{ℤ, pos, negsuc}
-use lib.Signed.{ltZ, leZ}
+use lib.Signed.{mag, ltZ, leZ}
+use mir.Syntax.{w32}
+use mir.Val.{hbits, ofZ, toZ}
+use mir.Facts.{toZ-ofZ}
 
 pub le-refl-Z : (a : ℤ) → leZ a a ≡ true
 le-refl-Z (pos a) = le-leb a a (le-refl a)
@@ -49,3 +54,7 @@ fails false h = refl
 pub le-lt-Z : (a b c : ℤ) → leZ a b ≡ true → ltZ b c ≡ true → ltZ a c ≡ true
 le-lt-Z a b c h k =
     lt-not-le a c ∙ ap not (fails (leZ c a) (λ m. true≢false (sym (le-trans-Z c a b m h) ∙ lt-not b c k)))
+
+-- what is read back of a number of 32 bits that was stored
+pub read-back : {z y : ℤ} → mag z < 2 ^ hbits w32 → z ≡ y → toZ w32 (ofZ w32 z) ≡ y
+read-back h e = toZ-ofZ (sfits-of h) ∙ e

@@ -10,7 +10,8 @@ use native.Mathlib.Omega.{arith}
 use lib.ListN.{length, getD, length-append}
 use lib.IntN.{ℤ}
 use lib.Signed.{ltZ, leZ}
-use Rattle.places.specs.Places.{keep, hits, matchesOf, tally, every, rising, Split, Among, Listed}
+use Rattle.places.specs.Places.{keep, hits, matchesOf, tally, every, rising, Among}
+use Rattle.places.specs.Inner.{Split}
 use Rattle.places.proofs.Order.{fails, le-refl-Z, le-trans-Z, lt-not}
 
 -- ---- truth values
@@ -43,13 +44,9 @@ unfolding keep
 keep-length true x xs = sym (add-one _)
 keep-length false x xs = sym (add-zero _)
 
-keep-short : (t : Bool) (x n : ℕ) (xs : List ℕ) → length xs ≤ n → length (keep t x xs) ≤ suc n
-unfolding keep
-keep-short true x n xs h = omega arith
-keep-short false x n xs h = omega arith
-
 -- what holds of x, where it is kept, and of each entry of xs
-keep-each : (P : ℕ → Type 0) (t : Bool) (x : ℕ) (xs : List ℕ) → (t ≡ true → P x) → ((i : ℕ) → i < length xs → P (getD xs i 0)) → (i : ℕ) → i < length (keep t x xs) → P (getD (keep t x xs) i 0)
+keep-each : (P : ℕ → Type 0) (t : Bool) (x : ℕ) (xs : List ℕ) → (t ≡ true → P x)
+    → ((i : ℕ) → i < length xs → P (getD xs i 0)) → (i : ℕ) → i < length (keep t x xs) → P (getD (keep t x xs) i 0)
 unfolding keep
 keep-each P false x xs h k i l = k i l
 keep-each P true x xs h k zero l = h refl
@@ -69,12 +66,24 @@ keep-later false x xs m = m
 unfoldable pub Rises : List ℕ → Type 0
 Rises xs = (i j : ℕ) → i < j → j < length xs → getD xs i 0 < getD xs j 0
 
-keep-rises : (t : Bool) (x : ℕ) (xs : List ℕ) → ((i : ℕ) → i < length xs → x < getD xs i 0) → Rises xs → Rises (keep t x xs)
+keep-rises : (t : Bool) (x : ℕ) (xs : List ℕ) → ((i : ℕ) → i < length xs → x < getD xs i 0)
+    → Rises xs → Rises (keep t x xs)
 unfolding keep Rises
 keep-rises false x xs h r i j l m = r i j l m
 keep-rises true x xs h r i zero l m = absurd (not-suc-le-zero l)
 keep-rises true x xs h r zero (suc j) l m = h j (le-of-suc-le-suc m)
 keep-rises true x xs h r (suc i) (suc j) l m = r i j (le-of-suc-le-suc l) (le-of-suc-le-suc m)
+
+-- xs lists the places below n at which f holds
+pub record Listed (f : ℕ → Bool) (n : ℕ) (xs : List ℕ) : Type 0 where
+  -- a place is listed exactly when f holds there
+  pub sound : (k : ℕ) → Among k xs → f k ≡ true
+  pub complete : (k : ℕ) → k < n → f k ≡ true → Among k xs
+  -- each listed place is below n, and they rise, so that each is listed once
+  pub inside : (k : ℕ) → Among k xs → k < n
+  pub rises : (i j : ℕ) → i < j → j < length xs → getD xs i 0 < getD xs j 0
+  -- their number
+  pub count : length xs ≡ tally f n
 
 -- ---- `hits`: the stretch of n places from p on
 
@@ -90,7 +99,8 @@ module _ (f : ℕ → Bool) where
   hits-add p zero n = ap₂ (hits f) (sym (add-zero p)) (zero-add n)
   hits-add p (suc m) n =
       let e : suc p + m ≡ p + suc m = omega arith in
-      ap (hits f p) (suc-add m n) ∙ ap (keep (f p) p) (hits-add (suc p) m n) ∙ keep-append (f p) p _ _ ∙ ap (λ q. keep (f p) p (hits f (suc p) m) ++ hits f q n) e
+      ap (hits f p) (suc-add m n) ∙ ap (keep (f p) p) (hits-add (suc p) m n) ∙ keep-append (f p) p _ _
+      ∙ ap (λ q. keep (f p) p (hits f (suc p) m) ++ hits f q n) e
 
   pub hits-zero : (p : ℕ) → hits f p 0 ≡ []
   unfolding hits
@@ -108,17 +118,24 @@ module _ (f : ℕ → Bool) where
   unfolding hits
   hits-none p zero h = refl
   hits-none p (suc n) h =
-      keep-false (f p) p _ (h p (le-refl p) (omega arith)) ∙ hits-none (suc p) n (λ k l m. h k (omega arith) (omega arith))
+      keep-false (f p) p _ (h p (le-refl p) (omega arith))
+      ∙ hits-none (suc p) n (λ k l m. h k (omega arith) (omega arith))
 
   -- where f fails outside a window, only the window counts
-  pub hits-window : (lo hi n : ℕ) → lo ≤ hi → hi ≤ n → ((k : ℕ) → k < lo → f k ≡ false) → ((k : ℕ) → hi ≤ k → k < n → f k ≡ false) → matchesOf f n ≡ hits f lo (hi - lo)
+  pub hits-window : (lo hi n : ℕ) → lo ≤ hi → hi ≤ n
+      → ((k : ℕ) → k < lo → f k ≡ false) → ((k : ℕ) → hi ≤ k → k < n → f k ≡ false)
+      → matchesOf f n ≡ hits f lo (hi - lo)
   unfolding matchesOf
   hits-window lo hi n l m before after =
       let whole : n ≡ lo + (hi - lo + (n - hi)) = omega arith in
       let end : lo + (hi - lo) ≡ hi = omega arith in
       let front : hits f 0 lo ≡ [] = hits-none 0 lo (λ k _ h. before k (omega arith)) in
       let back : hits f hi (n - hi) ≡ [] = hits-none hi (n - hi) (λ k h i. after k h (omega arith)) in
-      ap (hits f 0) whole ∙ hits-add 0 lo _ ∙ ap₂ _++_ front (ap (λ p. hits f p (hi - lo + (n - hi))) (zero-add lo) ∙ hits-add lo (hi - lo) (n - hi) ∙ ap (λ l. hits f lo (hi - lo) ++ l) (ap (λ p. hits f p (n - hi)) end ∙ back) ∙ append-nil _)
+      let past : hits f (lo + (hi - lo)) (n - hi) ≡ [] = ap (λ p. hits f p (n - hi)) end ∙ back in
+      let rest : hits f (0 + lo) (hi - lo + (n - hi)) ≡ hits f lo (hi - lo) =
+      ap (λ p. hits f p (hi - lo + (n - hi))) (zero-add lo) ∙ hits-add lo (hi - lo) (n - hi)
+      ∙ ap (λ l. hits f lo (hi - lo) ++ l) past ∙ append-nil _ in
+      ap (hits f 0) whole ∙ hits-add 0 lo _ ∙ ap₂ _++_ front rest
 
   pub hits-sound : (p n i : ℕ) → i < length (hits f p n) → Hit f p n (getD (hits f p n) i 0)
   unfolding hits
@@ -127,7 +144,11 @@ module _ (f : ℕ → Bool) where
       let later : (j : ℕ) → j < length (hits f (suc p) n) → Hit f p (suc n) (getD (hits f (suc p) n) j 0) = λ j m.
       let h : Hit f (suc p) n (getD (hits f (suc p) n) j 0) = hits-sound (suc p) n j m in
       record { from = omega arith; to = omega arith; holds = h .holds } in
-      keep-each (Hit f p (suc n)) (f p) p (hits f (suc p) n) (λ e. record { from = le-refl p; to = omega arith; holds = e }) later i l
+      keep-each (Hit f p (suc n)) (f p) p (hits f (suc p) n)
+      (λ e. record { from = le-refl p; to = omega arith; holds = e }) later i l
+
+  hits-among : (p n k : ℕ) → Among k (hits f p n) → Hit f p n k
+  hits-among p n k m = rw (← m .is) (hits-sound p n (m .index) (m .inside))
 
   pub hits-complete : (p n k : ℕ) → Hit f p n k → Among k (hits f p n)
   unfolding hits
@@ -135,7 +156,9 @@ module _ (f : ℕ → Bool) where
   hits-complete p (suc n) k h =
       ⊎-elim
       (λ e. subst (λ q. Among q (hits f p (suc n))) e (keep-here (f p) p (hits f (suc p) n) (ap f e ∙ h .holds)))
-      (λ l. keep-later (f p) p (hits f (suc p) n) (hits-complete (suc p) n k (record { from = l; to = omega (arith, h .to); holds = h .holds })))
+      (λ l.
+      let later : Hit f (suc p) n k = record { from = l; to = omega (arith, h .to); holds = h .holds } in
+      keep-later (f p) p (hits f (suc p) n) (hits-complete (suc p) n k later))
       (eq-or-lt-of-le (h .from))
 
   pub hits-rising : (p n : ℕ) → Rises (hits f p n)
@@ -144,11 +167,6 @@ module _ (f : ℕ → Bool) where
   hits-rising p (suc n) =
       keep-rises (f p) p (hits f (suc p) n) (λ i l. hits-sound (suc p) n i l .from) (hits-rising (suc p) n)
 
-  pub hits-short : (p n : ℕ) → length (hits f p n) ≤ n
-  unfolding hits
-  hits-short p zero = le-refl 0
-  hits-short p (suc n) = keep-short (f p) p n (hits f (suc p) n) (hits-short (suc p) n)
-
   -- ---- all the places below n
 
   pub hits-length : (n : ℕ) → length (matchesOf f n) ≡ tally f n
@@ -156,22 +174,16 @@ module _ (f : ℕ → Bool) where
   hits-length zero = refl
   hits-length (suc n) =
       let more : length (hits f 0 (suc n)) ≡ length (hits f 0 n ++ keep (f n) n []) =
-      ap (λ m. length (hits f 0 m)) (sym (add-one n)) ∙ ap length (hits-more 0 n) ∙ ap (λ k. length (hits f 0 n ++ keep (f k) k [])) (zero-add n) in
+      ap (λ m. length (hits f 0 m)) (sym (add-one n)) ∙ ap length (hits-more 0 n)
+      ∙ ap (λ k. length (hits f 0 n ++ keep (f k) k [])) (zero-add n) in
       more ∙ length-append (hits f 0 n) _ ∙ ap₂ _+_ (hits-length n) (keep-length (f n) n [] ∙ zero-add _)
-
-  pub matches-short : (n : ℕ) → length (matchesOf f n) ≤ n
-  unfolding matchesOf
-  matches-short n = hits-short 0 n
-
-  pub tally-le : (n : ℕ) → tally f n ≤ n
-  tally-le n = omega (arith, hits-length n, matches-short n)
 
   pub matches-listed : (n : ℕ) → Listed f n (matchesOf f n)
   unfolding matchesOf Rises
   matches-listed n = record {
-    sound = λ i l. hits-sound 0 n i l .holds;
+    sound = λ k m. hits-among 0 n k m .holds;
     complete = λ k l e. hits-complete 0 n k (record { from = zero-le; to = omega arith; holds = e });
-    inside = λ i l. omega (arith, hits-sound 0 n i l .to);
+    inside = λ k m. omega (arith, hits-among 0 n k m .to);
     rises = hits-rising 0 n;
     count = hits-length n;
   }
@@ -182,7 +194,10 @@ module _ (f : ℕ → Bool) where
   unfolding every
   every-at zero k e l = absurd (not-suc-le-zero l)
   every-at (suc n) k e l =
-      ⊎-elim (λ q. ap f q ∙ and-right (every f n) (f n) e) (λ m. every-at n k (and-left (every f n) (f n) e) m) (eq-or-lt-of-le (le-of-suc-le-suc l))
+      ⊎-elim
+      (λ q. ap f q ∙ and-right (every f n) (f n) e)
+      (λ m. every-at n k (and-left (every f n) (f n) e) m)
+      (eq-or-lt-of-le (le-of-suc-le-suc l))
 
   pub every-of : (n : ℕ) → ((k : ℕ) → k < n → f k ≡ true) → every f n ≡ true
   unfolding every
@@ -200,50 +215,56 @@ module _ (f : ℕ → Bool) where
   pub every-fails : (n k : ℕ) → k < n → f k ≡ false → every f n ≡ false
   every-fails n k l e = fails (every f n) (λ h. true≢false (sym (every-at n k h l) ∙ e))
 
--- ---- tests that agree at the places
-
-module _ (f g : ℕ → Bool) where
-  pub hits-ext : (p n : ℕ) → ((k : ℕ) → p ≤ k → k < p + n → f k ≡ g k) → hits f p n ≡ hits g p n
-  unfolding hits
-  hits-ext p zero h = refl
-  hits-ext p (suc n) h =
-      ap₂ (λ t xs. keep t p xs) (h p (le-refl p) (omega arith)) (hits-ext (suc p) n (λ k l m. h k (omega arith) (omega arith)))
-
-  pub matches-ext : (n : ℕ) → ((k : ℕ) → k < n → f k ≡ g k) → matchesOf f n ≡ matchesOf g n
-  unfolding matchesOf
-  matches-ext n h = hits-ext 0 n (λ k _ l. h k (omega arith))
-
-  pub tally-ext : (n : ℕ) → ((k : ℕ) → k < n → f k ≡ g k) → tally f n ≡ tally g n
-  tally-ext n h = sym (hits-length f n) ∙ ap length (matches-ext n h) ∙ hits-length g n
-
-  pub every-ext : (n : ℕ) → ((k : ℕ) → k < n → f k ≡ g k) → every f n ≡ every g n
-  unfolding every
-  every-ext zero h = refl
-  every-ext (suc n) h = ap₂ _&&_ (every-ext n (λ k l. h k (omega arith))) (h n (le-refl (suc n)))
-
 -- ---- a column that does not fall
 
 module _ (g : ℕ → ℤ) where
+  -- the places below j hold no more than j
+  abbrev over : ℕ → Bool
+  over j = every (λ i. leZ (g i) (g j)) j
+
   pub rising-at : (n i j : ℕ) → rising g n ≡ true → i ≤ j → j < n → leZ (g i) (g j) ≡ true
   unfolding rising
-  rising-at n i zero e l m =
-      let q : i ≡ 0 = omega arith in ap (λ k. leZ (g k) (g 0)) q ∙ le-refl-Z (g 0)
-  rising-at n i (suc j) e l m =
+  rising-at n i j e l m =
       ⊎-elim
-      (λ q. ap (λ k. leZ (g k) (g (suc j))) q ∙ le-refl-Z (g (suc j)))
-      (λ h. le-trans-Z (g i) (g j) (g (suc j)) (rising-at n i j e (le-of-suc-le-suc h) (omega arith)) (every-at (λ k. leZ (g k) (g (suc k))) (n - 1) j e (omega arith)))
+      (λ q. ap (λ k. leZ (g k) (g j)) q ∙ le-refl-Z (g j))
+      (λ h. every-at (λ k. leZ (g k) (g j)) j i (every-at over n j e m) h)
       (eq-or-lt-of-le l)
+
+  pub rising-one : rising g 1 ≡ true
+  unfolding rising every
+  rising-one = refl
+
+  -- neighbours suffice: what holds no less than the place before it holds no less than any before it
+  pub rising-more : (i : ℕ) → rising g (i + 1) ≡ true → leZ (g i) (g (i + 1)) ≡ true → rising g (i + 1 + 1) ≡ true
+  unfolding rising
+  rising-more i r e =
+      let below : (k : ℕ) → k < i + 1 → leZ (g k) (g (i + 1)) ≡ true = λ k l.
+      le-trans-Z (g k) (g i) (g (i + 1)) (rising-at (i + 1) k i r (omega arith) (omega arith)) e in
+      every-more over (i + 1) r (every-of (λ k. leZ (g k) (g (i + 1))) (i + 1) below)
+
+  pub rising-fewer : (m n : ℕ) → m ≤ n → rising g n ≡ true → rising g m ≡ true
+  unfolding rising
+  rising-fewer m n l e = every-of over m (λ k h. every-at over n k e (omega arith))
+
+  pub rising-fails : (n i : ℕ) → i + 1 < n → leZ (g i) (g (i + 1)) ≡ false → rising g n ≡ false
+  rising-fails n i l e =
+      fails (rising g n) (λ h. true≢false (sym (rising-at n i (i + 1) h (omega arith) l) ∙ e))
 
 -- ---- a window between two bounds: a and b split a column at lo and hi
 
-module _ (g : ℕ → ℤ) (n : ℕ) (a b : ℤ) (order : leZ a b ≡ true) (lo hi : ℕ) (s : Split g n a lo) (t : Split g n b hi) where
+module _ (g : ℕ → ℤ) (n : ℕ) (a b : ℤ) (order : leZ a b ≡ true) (lo hi : ℕ)
+    (s : Split g n a lo) (t : Split g n b hi) where
   pub split-order : lo ≤ hi
   split-order =
       let crossed : hi < lo → ⊥ = λ l.
-      true≢false (sym (le-trans-Z a b (g hi) order (t .above hi (le-refl hi) (omega (arith, s .size)))) ∙ lt-not (g hi) a (s .below hi l)) in
+      let b-le = t .above hi (le-refl hi) (omega (arith, s .size)) in
+      true≢false (sym (le-trans-Z a b (g hi) order b-le) ∙ lt-not (g hi) a (s .below hi l)) in
       omega (arith, crossed)
 
   -- f fails below a and from b on, so only the places from lo up to hi count
-  pub matches-between : (f : ℕ → Bool) → ((k : ℕ) → k < n → ltZ (g k) a ≡ true → f k ≡ false) → ((k : ℕ) → k < n → leZ b (g k) ≡ true → f k ≡ false) → matchesOf f n ≡ hits f lo (hi - lo)
+  pub matches-between : (f : ℕ → Bool) → ((k : ℕ) → k < n → ltZ (g k) a ≡ true → f k ≡ false)
+      → ((k : ℕ) → k < n → leZ b (g k) ≡ true → f k ≡ false) → matchesOf f n ≡ hits f lo (hi - lo)
   matches-between f under over =
-      hits-window f lo hi n split-order (t .size) (λ k l. under k (omega (arith, s .size)) (s .below k l)) (λ k l m. over k m (t .above k l m))
+      hits-window f lo hi n split-order (t .size)
+      (λ k l. under k (omega (arith, s .size)) (s .below k l))
+      (λ k l m. over k m (t .above k l m))

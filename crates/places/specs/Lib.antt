@@ -1,2 +1,3 @@
--- What the contracts of `places` cite.
+-- What the contracts of `places` cite, and those of the calls over them; `Inner` is what only inner contracts cite.
 pub mod Places
+pub mod Inner

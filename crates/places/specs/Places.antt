@@ -1,12 +1,12 @@
 -- The places of a deck, counted from 0: which of them satisfy a test, how many, and what a column holds at them.
--- A test goes from places to truth values and a column from places to numbers, so that nothing here depends on how a deck is kept.
+-- A test goes from places to truth values and a column from places to numbers: how a deck is kept does not matter here.
 use mathlib.Core.Path.{_≡_}
 use mathlib.Core.Bool.{Bool, true, cond, _&&_}
 use mathlib.Core.List.{List, [], _∷_}
-use Prim.Native.Nat.{ℕ, zero, suc, _+_, _-_, _≤_, _<_}
+use Prim.Native.Nat.{ℕ, zero, suc, _+_, _<_}
 use lib.IntN.{ℤ, pos}
 use lib.ListN.{length, getD}
-use lib.Signed.{ltZ, leZ}
+use lib.Signed.{leZ}
 
 -- ---- tests
 
@@ -39,19 +39,9 @@ every f (suc n) = every f n && f n
 abbrev pub at : List ℤ → ℕ → ℤ
 at xs k = getD xs k (pos 0)
 
--- low ≤ x ≤ high
-unfoldable pub within : ℤ → ℤ → ℤ → Bool
-within low high x = leZ low x && leZ x high
-
--- of the n places of g, none holds less than the place before it
+-- for all i < j < n, g holds no more at i than at j
 unfoldable pub rising : (ℕ → ℤ) → ℕ → Bool
-rising g n = every (λ k. leZ (g k) (g (suc k))) (n - 1)
-
--- of the n places of g, those before r hold less than the bound, and the others at least the bound
-pub record Split (g : ℕ → ℤ) (n : ℕ) (bound : ℤ) (r : ℕ) : Type 0 where
-  pub size : r ≤ n
-  pub below : (k : ℕ) → k < r → ltZ (g k) bound ≡ true
-  pub above : (k : ℕ) → r ≤ k → k < n → leZ bound (g k) ≡ true
+rising g n = every (λ j. every (λ i. leZ (g i) (g j)) j) n
 
 -- ---- a list of places
 
@@ -60,14 +50,3 @@ pub record Among (k : ℕ) (xs : List ℕ) : Type 0 where
   pub index : ℕ
   pub inside : index < length xs
   pub is : getD xs index 0 ≡ k
-
--- xs lists the places below n at which f holds
-pub record Listed (f : ℕ → Bool) (n : ℕ) (xs : List ℕ) : Type 0 where
-  -- a place is listed exactly when f holds there
-  pub sound : (i : ℕ) → i < length xs → f (getD xs i 0) ≡ true
-  pub complete : (k : ℕ) → k < n → f k ≡ true → Among k xs
-  -- each listed place is below n, and they rise, so that each is listed once
-  pub inside : (i : ℕ) → i < length xs → getD xs i 0 < n
-  pub rises : (i j : ℕ) → i < j → j < length xs → getD xs i 0 < getD xs j 0
-  -- their number
-  pub count : length xs ≡ tally f n

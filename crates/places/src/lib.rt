@@ -1,23 +1,34 @@
-// What a search of a deck needs that does not depend on colour: the order and the limits of a
-// column, the first place whose value reaches a bound, and the copy of the found places.
+// What a search of a deck needs that does not depend on colour: the entries of a lane and their
+// order, the first place whose value reaches a bound, and the copy of the found places. A lane is a
+// slice, of which every stride-th number counts.
 ghost use mathlib.Core.Path.{_≡_};
 ghost use mathlib.Core.Bool.{true};
 ghost use mathlib.Core.List.{_++_};
-ghost use Prim.Native.Nat.{_≤_};
+ghost use Prim.Native.Nat.{_*_, _≤_, _<_};
 ghost use lib.ListN.{length, take, drop};
-ghost use Rattle.places.specs.Places.{at, every, within, rising, Split};
+ghost use Rattle.places.specs.Places.{rising};
+ghost use Rattle.places.specs.Inner.{laneAt, Spans, Split};
 
-// The first place whose value is at least the bound, or the number of places where there is none,
-// by binary search: the answer is lo, hi or between them.
-pub fn first_at_least(column: &[i32], bound: i32) -> usize
-    requires { ⌜ rising (at (now column)) (length (now column)) ≡ true ⌝ }
-    ensures { λ r. ⌜ Split (at (now (column .entry))) (length (now (column .entry))) bound r ⌝ }
+// What a lane holds at a place.
+pub fn entry(lane: &[i32], stride: usize, k: usize) -> i32
+    requires { ⌜ k * stride < length (now lane) ⌝ }
+    ensures { λ r. ⌜ r ≡ laneAt (now (lane .entry)) stride k ⌝ }
+{
+    lane[k * stride]
+}
+
+// The first of a lane's n places whose value is at least the bound, or n where there is none, by
+// binary search: the answer is lo, hi or between them.
+pub fn first_at_least(lane: &[i32], stride: usize, n: usize, bound: i32) -> usize
+    requires { ⌜ Spans (now lane) stride n ⌝ }
+    requires { ⌜ rising (laneAt (now lane) stride) n ≡ true ⌝ }
+    ensures { λ r. ⌜ Split (laneAt (now (lane .entry)) stride) n bound r ⌝ }
 {
     let mut lo = 0;
-    let mut hi = column.len();
+    let mut hi = n;
     while lo < hi {
         let mid = lo + (hi - lo) / 2;
-        if column[mid] < bound {
+        if entry(lane, stride, mid) < bound {
             lo = mid + 1;
         } else {
             hi = mid;
@@ -26,31 +37,14 @@ pub fn first_at_least(column: &[i32], bound: i32) -> usize
     lo
 }
 
-// Whether no value is below the one before it.
-pub fn rises(column: &[i32]) -> bool
-    ensures { λ r. ⌜ r ≡ rising (at (now (column .entry))) (length (now (column .entry))) ⌝ }
+// Whether no value of a lane's n is below an earlier one; neighbours suffice.
+pub fn rises(lane: &[i32], stride: usize, n: usize) -> bool
+    requires { ⌜ Spans (now lane) stride n ⌝ }
+    ensures { λ r. ⌜ r ≡ rising (laneAt (now (lane .entry)) stride) n ⌝ }
 {
     let mut i = 0;
-    while i + 1 < column.len() {
-        if column[i + 1] < column[i] {
-            return false;
-        }
-        i += 1;
-    }
-    true
-}
-
-// Whether each value is from low to high.
-pub fn all_within(column: &[i32], low: i32, high: i32) -> bool
-    ensures { λ r. ⌜ r ≡ every (λ k. within low high (at (now (column .entry)) k)) (length (now (column .entry))) ⌝ }
-{
-    let mut i = 0;
-    while i < column.len() {
-        let x = column[i];
-        if x < low {
-            return false;
-        }
-        if high < x {
+    while i + 1 < n {
+        if entry(lane, stride, i + 1) < entry(lane, stride, i) {
             return false;
         }
         i += 1;
@@ -59,9 +53,8 @@ pub fn all_within(column: &[i32], low: i32, high: i32) -> bool
 }
 
 // Copies the first n of the found places to the front of the caller's list.
-pub fn copy_front(found: &[u16; 4096], n: usize, places: &mut [u16])
-    requires { ⌜ length (now found) ≡ 4096 ⌝ }
-    requires { ⌜ n ≤ 4096 ⌝ }
+pub fn copy_front(found: &[u16], n: usize, places: &mut [u16])
+    requires { ⌜ n ≤ length (now found) ⌝ }
     requires { ⌜ n ≤ length (now places) ⌝ }
     ensures { λ _. ⌜ now (places .exit) ≡ take n (now (found .entry)) ++ drop n (now (places .entry)) ⌝ }
 {

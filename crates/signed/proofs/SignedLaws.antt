@@ -1,14 +1,15 @@
 -- Laws of ℤ's sign and size, and of `int`. Assumes nothing.
 use mathlib.Core.Path.{_≡_, refl, sym, ap, _∙_}
-use mathlib.Core.Bool.{Bool, true, false, cond, true≢false}
+use mathlib.Core.Bool.{Bool, true, false, cond}
 use Prim.Native.Nat.{ℕ, zero, suc, _+_, _-_, _*_, _/_, _≤_, _<_}
-use native.Mathlib.Nat.{le-refl, lt-irrefl, zero-div, div-zero}
+use native.Mathlib.Nat.{le-refl, lt-irrefl, zero-div}
 use native.Mathlib.Omega.{arith}
 use lib.Dec.{ltb, leb·zero, leb·suc-zero, leb·suc-suc}
 use lib.IntN.{ℤ, pos, negsuc, negℤ, natAbs, _+ℤ_, _-ℤ_, _*ℤ_, negℤ-negℤ, negℤ-+ℤ, +ℤ-comm, *ℤ-comm, zero-*ℤ}
 use lib.Signed.{ltZ, quotZ}
 use Rattle.signed.specs.declared.Int.{Int}
-use Rattle.signed.specs.Value.{withSign, int}
+use Rattle.signed.specs.Value.{withSign}
+use Rattle.signed.specs.Inner.{int}
 
 -- ---- negation
 
@@ -38,14 +39,6 @@ neg-quot (pos (suc m)) (pos k) = refl
 neg-quot (pos (suc m)) (negsuc k) = sym (negℤ-negℤ _)
 neg-quot (negsuc m) (pos k) = sym (negℤ-negℤ _)
 neg-quot (negsuc m) (negsuc k) = refl
-
-pub quot-by-neg : (x y : ℤ) → quotZ x (negℤ y) ≡ negℤ (quotZ x y)
-quot-by-neg (pos m) (pos zero) = rw div-zero
-quot-by-neg (negsuc m) (pos zero) = rw div-zero
-quot-by-neg (pos m) (pos (suc k)) = refl
-quot-by-neg (negsuc m) (pos (suc k)) = sym (negℤ-negℤ _)
-quot-by-neg (pos m) (negsuc k) = sym (negℤ-negℤ _)
-quot-by-neg (negsuc m) (negsuc k) = refl
 
 pub quot-neg : (x : ℤ) (k : ℕ) → quotZ (negℤ x) (pos k) ≡ negℤ (quotZ x (pos k))
 quot-neg x k = neg-quot x (pos k)
@@ -115,20 +108,3 @@ sign-size true n = natAbs-neg (pos n)
 pub int-size : (a : Int) → natAbs (int a) ≡ a .n
 unfolding int
 int-size a = sign-size (a .neg) (a .n)
-
-sign-nonneg : (s : Bool) (n : ℕ) → ltZ (withSign s n) (pos 0) ≡ false → withSign s n ≡ pos n
-sign-nonneg false n h = refl
-sign-nonneg true zero h = refl
-sign-nonneg true (suc n) h = absurd (true≢false h)
-
-pub int-nonneg : (a : Int) → ltZ (int a) (pos 0) ≡ false → int a ≡ pos (a .n)
-unfolding int
-int-nonneg a h = sign-nonneg (a .neg) (a .n) h
-
-sign-neg : (s : Bool) (n : ℕ) → ltZ (withSign s n) (pos 0) ≡ true → withSign s n ≡ negℤ (pos n)
-sign-neg false n h = absurd (true≢false (sym h ∙ leb·suc-zero n))
-sign-neg true n h = refl
-
-pub int-negative : (a : Int) → ltZ (int a) (pos 0) ≡ true → int a ≡ negℤ (pos (a .n))
-unfolding int
-int-negative a h = sign-neg (a .neg) (a .n) h

@@ -1,2 +1,3 @@
--- What the contracts of `signed` cite.
+-- What the contracts of `signed` cite; `Inner` is what only inner contracts cite.
 pub mod Value
+pub mod Inner

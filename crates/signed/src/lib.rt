@@ -1,12 +1,11 @@
 // Whole numbers with a sign: a sign and a size, of which each function says what it is in ℤ.
 // Sums and products of such numbers are proved as unsigned ones are, by the bounds of their sizes.
 ghost use mathlib.Core.Path.{_≡_};
-ghost use mathlib.Core.Bool.{cond};
-ghost use Prim.Native.Nat.{_+_, _*_, _/_, _^_, _<_, max};
+ghost use Prim.Native.Nat.{_+_, _*_, _/_, _^_, _<_};
 ghost use lib.Dec.{eqb};
 ghost use lib.IntN.{pos, negℤ, natAbs, _+ℤ_, _-ℤ_, _*ℤ_};
 ghost use lib.Signed.{ltZ, quotZ};
-ghost use Rattle.signed.specs.Value.{int, Exactly, Within, Apart, Size};
+ghost use Rattle.signed.specs.Inner.{int, Exactly, Within, Apart, Size};
 
 // n, or -n where neg is true. Zero may carry either sign.
 pub struct Int {
@@ -14,13 +13,15 @@ pub struct Int {
     pub n: u64,
 }
 
+// n, not below 0.
 pub fn natural(n: u64) -> Int
     ensures { λ r. ⌜ Exactly (pos n) n r ⌝ }
 {
     Int { neg: false, n: n }
 }
 
-pub fn negated(a: Int) -> Int
+// -a.
+fn negated(a: Int) -> Int
     ensures { λ r. ⌜ Exactly (negℤ (int a)) (a .n) r ⌝ }
 {
     Int {
@@ -29,6 +30,7 @@ pub fn negated(a: Int) -> Int
     }
 }
 
+// a times b.
 pub fn product(a: Int, b: Int) -> Int
     requires { ⌜ a .n * b .n < 2 ^ 64 ⌝ }
     ensures { λ r. ⌜ Exactly (int a *ℤ int b) (a .n * b .n) r ⌝ }
@@ -39,6 +41,7 @@ pub fn product(a: Int, b: Int) -> Int
     }
 }
 
+// a times k.
 pub fn scaled(a: Int, k: u64) -> Int
     requires { ⌜ a .n * k < 2 ^ 64 ⌝ }
     ensures { λ r. ⌜ Exactly (int a *ℤ pos k) (a .n * k) r ⌝ }
@@ -65,6 +68,7 @@ pub fn natural_difference(x: u64, y: u64) -> Int
     }
 }
 
+// a + b.
 pub fn sum(a: Int, b: Int) -> Int
     requires { ⌜ a .n + b .n < 2 ^ 64 ⌝ }
     ensures { λ r. ⌜ Within (int a +ℤ int b) (a .n + b .n) r ⌝ }
@@ -87,22 +91,12 @@ pub fn sum(a: Int, b: Int) -> Int
     }
 }
 
+// a - b.
 pub fn difference(a: Int, b: Int) -> Int
     requires { ⌜ a .n + b .n < 2 ^ 64 ⌝ }
     ensures { λ r. ⌜ Within (int a -ℤ int b) (a .n + b .n) r ⌝ }
 {
     sum(a, negated(b))
-}
-
-// a / b, rounded toward zero.
-pub fn quotient(a: Int, b: Int) -> Int
-    requires { ⌜ 0 < b .n ⌝ }
-    ensures { λ r. ⌜ Exactly (quotZ (int a) (int b)) (a .n / b .n) r ⌝ }
-{
-    Int {
-        neg: a.neg != b.neg,
-        n: a.n / b.n,
-    }
 }
 
 // a / k, rounded toward zero.
@@ -116,31 +110,14 @@ pub fn divided(a: Int, k: u64) -> Int
     }
 }
 
+// The size of a, without its sign.
 pub fn size(a: Int) -> u64
     ensures { λ r. ⌜ Size a r ⌝ }
 {
     a.n
 }
 
-pub fn less(a: Int, b: Int) -> bool
-    ensures { λ r. ⌜ r ≡ ltZ (int a) (int b) ⌝ }
-{
-    if a.neg {
-        if b.neg {
-            return b.n < a.n;
-        }
-        // -0 is not below 0
-        if 0 < a.n {
-            return true;
-        }
-        return 0 < b.n;
-    }
-    if b.neg {
-        return false;
-    }
-    a.n < b.n
-}
-
+// Whether a is below 0.
 pub fn is_negative(a: Int) -> bool
     ensures { λ r. ⌜ r ≡ ltZ (int a) (pos 0) ⌝ }
 {
@@ -150,6 +127,7 @@ pub fn is_negative(a: Int) -> bool
     false
 }
 
+// Whether a is above 0.
 pub fn is_positive(a: Int) -> bool
     ensures { λ r. ⌜ r ≡ ltZ (pos 0) (int a) ⌝ }
 {
@@ -159,22 +137,14 @@ pub fn is_positive(a: Int) -> bool
     0 < a.n
 }
 
+// Whether a is 0, with either sign.
 pub fn is_zero(a: Int) -> bool
     ensures { λ r. ⌜ r ≡ eqb (natAbs (int a)) 0 ⌝ }
 {
     a.n == 0
 }
 
-// a where t is true, and b where it is false.
-pub fn choose(t: bool, a: Int, b: Int) -> Int
-    ensures { λ r. ⌜ r ≡ cond t a b ⌝ }
-{
-    if t {
-        return a;
-    }
-    b
-}
-
+// x as a sign and a size.
 pub fn from_i64(x: i64) -> Int
     ensures { λ r. ⌜ Exactly x (natAbs x) r ⌝ }
 {
@@ -191,6 +161,7 @@ pub fn from_i64(x: i64) -> Int
     }
 }
 
+// a as a machine integer.
 pub fn to_i64(a: Int) -> i64
     requires { ⌜ a .n < 2 ^ 63 ⌝ }
     ensures { λ r. ⌜ r ≡ int a ⌝ }
@@ -201,12 +172,14 @@ pub fn to_i64(a: Int) -> i64
     a.n as i64
 }
 
+// x as a sign and a size.
 pub fn from_i32(x: i32) -> Int
     ensures { λ r. ⌜ Exactly x (natAbs x) r ⌝ }
 {
     from_i64(x as i64)
 }
 
+// a as a machine integer.
 pub fn to_i32(a: Int) -> i32
     requires { ⌜ a .n < 2 ^ 31 ⌝ }
     ensures { λ r. ⌜ r ≡ int a ⌝ }

@@ -8,9 +8,10 @@ use native.Mathlib.Omega.{arith}
 use borrow.Author.Tests.{lt-ltb, le-ltb}
 use lib.IntN.{pos, negℤ}
 use lib.ListN.{length, getD}
-use Rattle.signed.specs.Value.{Within}
+use Rattle.signed.specs.Inner.{Within}
 use Rattle.signed.proofs.SignedLaws.{int-true, int-false}
-use Rattle.sine.specs.Sine.{SineTable, Entry, sineEntry, sineHalf, sineTurn, sineOf}
+use Rattle.sine.specs.Inner.{SineTable, Entry}
+use Rattle.sine.specs.Sine.{sineEntry, sineHalf, sineTurn, sineOf}
 use Rattle.sine.proofs.Tabulate.{tabulate, tabulated, length-tabulate}
 use Rattle.sine.proofs.SineLaws.{sine-entry-le, half-le}
 

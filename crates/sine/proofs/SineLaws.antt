@@ -5,6 +5,7 @@ use mathlib.Core.Bool.{Bool, true, false, cond}
 use Prim.Native.Nat.{ℕ, _+_, _-_, _%_, _≤_, _<_}
 use native.Mathlib.Nat.{lt-of-le-of-lt, min-le-left}
 use native.Mathlib.Omega.{arith}
+use borrow.Author.Tests.{lt-ltb}
 use lib.Dec.{leb, ltb, lit<}
 use lib.IntN.{pos, negℤ, natAbs}
 use Rattle.signed.proofs.SignedLaws.{natAbs-neg}
@@ -59,3 +60,10 @@ sine-size angle = turn-size (angle % 360000000)
 pub cosine-size : (angle : ℕ) → natAbs (cosineOf angle) ≤ 1000000000
 unfolding cosineOf
 cosine-size angle = sine-size (angle + 90000000)
+
+-- up to half a turn the sine is not below 0
+pub sine-not-negative : (angle : ℕ) → angle < 180000000 → sineOf angle ≡ pos (natAbs (sineOf angle))
+unfolding sineOf sineTurn
+sine-not-negative angle h =
+    let e : angle % 360000000 ≡ angle = omega arith in
+    rw (e, lt-ltb angle 180000000 h) refl

@@ -1,13 +1,11 @@
--- The sine (step 4 of the working): the table's entries, and the sine of any angle.
+-- The sine (step 4): the table's entries, and the sine of any angle.
 -- An angle is a whole number of 10^-6 degree, a sine of 10^-9.
 -- Assumes nothing.
-use mathlib.Core.Path.{_≡_}
 use mathlib.Core.Bool.{cond}
 use mathlib.Core.List.{List, [], _∷_}
-use Prim.Native.Nat.{ℕ, _+_, _-_, _*_, _/_, _%_, _≤_, _<_, min}
+use Prim.Native.Nat.{ℕ, _+_, _-_, _*_, _/_, _%_, min}
 use lib.Dec.{leb, ltb}
 use lib.IntN.{ℤ, pos, negℤ}
-use lib.ListN.{length, getD}
 
 -- the series is worked in whole numbers of 10^-24: this is 1, and below it pi = 3.14159265358979323846
 unfoldable pub unit : ℕ
@@ -57,13 +55,3 @@ sineOf angle = sineTurn (angle % 360000000)
 -- the cosine is the sine 90 degrees on
 unfoldable pub cosineOf : ℕ → ℤ
 cosineOf angle = sineOf (angle + 90000000)
-
--- the table of the sines of 0 to 90 degrees, one for each tenth
-pub record SineTable (t : List ℕ) : Type 0 where
-  pub size : length t ≡ 901
-  pub entry : (k : ℕ) → k < 901 → getD t k 0 ≡ sineEntry k
-
--- an entry as it is looked up
-pub record Entry (k r : ℕ) : Type 0 where
-  pub is : r ≡ sineEntry k
-  pub size : r ≤ 1000000000

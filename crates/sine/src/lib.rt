@@ -1,11 +1,29 @@
-// The sine of any angle, in whole numbers: a table of the sines of 0 to 90 degrees, one for each tenth of a degree, and what stands between its entries.
+// Step 4: the sine of any angle, in whole numbers: a table of the sines of 0 to 90 degrees, one for each tenth of a degree,
+// and what stands between its entries.
 // An angle is a whole number of 10^-6 degree, a sine of 10^-9.
 use signed::Int;
 ghost use mathlib.Core.Path.{_≡_};
 ghost use Prim.Native.Nat.{_≤_, _<_, _^_};
-ghost use Rattle.signed.specs.Value.{Within};
-ghost use Rattle.sine.specs.Sine.{SineTable, Entry, interpolated, sineQuarter, sineHalf, sineOf, cosineOf};
+ghost use Rattle.signed.specs.Inner.{Within};
+ghost use Rattle.sine.specs.Inner.{SineTable, Entry};
+ghost use Rattle.sine.specs.Sine.{interpolated, sineQuarter, sineHalf, sineOf, cosineOf};
 
+// 1 in 10^-9, the unit of sines, ratios and weighting functions.
+pub const ONE: u64 = 1000000000;
+
+// A whole turn, in 10^-6 degree.
+pub const TURN: u64 = 360000000;
+
+// Half a turn.
+const HALF_TURN: u64 = 180000000;
+
+// A right angle.
+pub const QUARTER_TURN: u64 = 90000000;
+
+// A tenth of a degree.
+pub const TENTH: u64 = 100000;
+
+// The sines of 0 to 90 degrees.
 const ENTRIES: [u32; 901] = [
     0,
     1745328,
@@ -917,6 +935,7 @@ pub fn sine_table() -> [u32; 901]
     ENTRIES
 }
 
+// x as it is, in 64 bits.
 fn wide(x: u32) -> u64
     ensures { λ r. ⌜ r ≡ x ⌝ }
 {
@@ -939,8 +958,8 @@ fn interpolate(sin: u64, cos: u64, arc: u64) -> u64
     requires { ⌜ arc ≤ 2000000 ⌝ }
     ensures { λ r. ⌜ r ≡ interpolated sin cos arc ⌝ }
 {
-    let sum = (sin * (1000000000 - arc * arc / 2000000000) + cos * arc) / 1000000000;
-    if sum < 1000000000 { sum } else { 1000000000 }
+    let sum = (sin * (ONE - arc * arc / 2000000000) + cos * arc) / ONE;
+    if sum < ONE { sum } else { ONE }
 }
 
 // The sine of an angle from 0 to 90 degrees.
@@ -949,8 +968,8 @@ fn quarter(t: &[u32; 901], angle: u64) -> u64
     requires { ⌜ angle ≤ 90000000 ⌝ }
     ensures { λ r. ⌜ r ≡ sineQuarter angle ⌝ }
 {
-    let k = (angle / 100000) as usize;
-    let arc = angle % 100000 * 17453293 / 1000000;
+    let k = (angle / TENTH) as usize;
+    let arc = angle % TENTH * 17453293 / 1000000;
     interpolate(entry(t, k), entry(t, 900 - k), arc)
 }
 
@@ -960,10 +979,10 @@ fn half(t: &[u32; 901], angle: u64) -> u64
     requires { ⌜ angle ≤ 180000000 ⌝ }
     ensures { λ r. ⌜ r ≡ sineHalf angle ⌝ }
 {
-    if angle <= 90000000 {
+    if angle <= QUARTER_TURN {
         quarter(t, angle)
     } else {
-        quarter(t, 180000000 - angle)
+        quarter(t, HALF_TURN - angle)
     }
 }
 
@@ -972,8 +991,8 @@ pub fn sine(t: &[u32; 901], angle: u64) -> Int
     requires { ⌜ SineTable (now t) ⌝ }
     ensures { λ r. ⌜ Within (sineOf angle) 1000000000 r ⌝ }
 {
-    let turn = angle % 360000000;
-    if turn < 180000000 {
+    let turn = angle % TURN;
+    if turn < HALF_TURN {
         Int {
             neg: false,
             n: half(t, turn),
@@ -981,7 +1000,7 @@ pub fn sine(t: &[u32; 901], angle: u64) -> Int
     } else {
         Int {
             neg: true,
-            n: half(t, turn - 180000000),
+            n: half(t, turn - HALF_TURN),
         }
     }
 }
@@ -992,5 +1011,5 @@ pub fn cosine(t: &[u32; 901], angle: u64) -> Int
     requires { ⌜ angle < 2 ^ 63 ⌝ }
     ensures { λ r. ⌜ Within (cosineOf angle) 1000000000 r ⌝ }
 {
-    sine(t, angle + 90000000)
+    sine(t, angle + QUARTER_TURN)
 }

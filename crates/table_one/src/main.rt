@@ -297,8 +297,8 @@ fn difference(s: Reading, t: Reading) -> u64 {
         h: 1.0,
     };
     let r = measure::figures(s, t, weights);
-    let list = r.list;
-    list.difference
+    let row = r.row;
+    signed::size(signed::from_i64(row[22]))
 }
 
 fn reading(pairs: &[f32; 204], at: usize) -> Reading

@@ -1,8 +1,8 @@
-mod Reading
-mod Parsing
-mod Writing
+-- `Streaming` is for callers; the others are for the proofs of this crate's functions.
+mod LineLaws
+mod FigureLaws
 mod Answering
 mod Holding
 pub mod Streaming
-pub mod Whole
+mod Whole
 mod Examples

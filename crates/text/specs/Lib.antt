@@ -1,6 +1,6 @@
--- What the contracts of `text` cite: paper 01's "Text program". Bytes are numbers below 256, in ASCII.
+-- What the contracts of `text` cite: the text program. Bytes are numbers below 256, in ASCII.
 pub mod Line
 pub mod Figures
 pub mod Text
 pub mod Stream
-pub mod Carried
+pub mod Inner

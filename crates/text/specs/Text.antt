@@ -1,43 +1,19 @@
 -- The text program's whole output as a function of its input.
-use mathlib.Core.Bool.{Bool, false, _||_, cond}
+use mathlib.Core.Bool.{false, cond}
 use mathlib.Core.List.{List, [], _∷_, _++_}
 use Prim.Native.Nat.{ℕ}
 use lib.Dec.{ltb, eqb}
 use lib.ListN.{length}
-use lib.IntN.{ℤ, pos, natAbs}
-use lib.Signed.{ltZ}
-use Rattle.fixed_point.specs.Samples.{Sample}
-use Rattle.fixed_point.specs.Refusals.{firstOf}
-use Rattle.fixed_point.specs.declared.FixedWeights.{FixedWeights}
-use Rattle.difference.specs.Differences.{Figures, cie76Of, cie94Of, figuresOf}
-use Rattle.text.specs.Line.{Values, Parsed, pair, malformed, parseLine}
+use lib.IntN.{ℤ, pos}
+use Rattle.sample.specs.Sample.{Sample, Colour, colourRefusal, colourSample}
+use Rattle.sample.specs.Refusals.{firstOf}
+use Rattle.sample.specs.declared.FixedWeights.{FixedWeights}
+use Rattle.difference.specs.Cie76.{cie76Of}
+use Rattle.difference.specs.Cie94.{cie94Of}
+use Rattle.difference.specs.Ciede2000.{Figures, figuresOf}
+use Rattle.decimal.specs.Reading.{Found, found, missing}
+use Rattle.text.specs.Line.{readPair}
 use Rattle.text.specs.Figures.{figuresText, refusedText, headerText}
-
--- L below 0 or above 100; a or b below -128 or above 128; in 1/10,000
-abbrev pub lightnessOut : ℤ → Bool
-lightnessOut z = ltZ z (pos 0) || ltb 1000000 (natAbs z)
-
-abbrev pub opponentOut : ℤ → Bool
-opponentOut z = ltb 1280000 (natAbs z)
-
-unfoldable pub valuesRefusal : Values → ℕ
-valuesRefusal v = cond (lightnessOut (v .l)) 2 (cond (opponentOut (v .a) || opponentOut (v .b)) 3 0)
-
--- sample 1 before sample 2
-unfoldable pub parsedRefusal : Parsed → ℕ
-parsedRefusal (pair s t) = firstOf (valuesRefusal s) (valuesRefusal t)
-parsedRefusal malformed = 9
-
--- a line has at most 96 bytes
-unfoldable pub lineParsed : List ℕ → Parsed
-lineParsed line = cond (ltb 96 (length line)) malformed (parseLine line)
-
--- 9 comes before all others
-unfoldable pub refusalOf : List ℕ → ℕ
-refusalOf line = parsedRefusal (lineParsed line)
-
-unfoldable pub sampleFrom : Values → Sample
-sampleFrom v = record { l = natAbs (v .l); a = v .a; b = v .b }
 
 -- each weight is 1
 unfoldable pub plainWeights : FixedWeights
@@ -50,17 +26,38 @@ figuresList d76 d94 f = pos d76 ∷ pos d94 ∷ pos (f .difference) ∷ f .parts
 unfoldable pub figuresLine : Sample → Sample → List ℕ
 figuresLine s t = figuresText (figuresList (cie76Of s t) (cie94Of false plainWeights s t) (figuresOf plainWeights s t))
 
--- figures where nothing is refused
-unfoldable pub pairAnswer : ℕ → Values → Values → List ℕ
-pairAnswer n s t = cond (eqb n 0) (figuresLine (sampleFrom s) (sampleFrom t)) (refusedText n)
+-- figures where nothing is refused; sample 1 comes before sample 2
+unfoldable pub pairAnswer : Colour → Colour → List ℕ
+pairAnswer s t =
+    let n = firstOf (colourRefusal s) (colourRefusal t) in
+    cond (eqb n 0) (figuresLine (colourSample s) (colourSample t)) (refusedText n)
 
-unfoldable pub answerOf : Parsed → List ℕ
-answerOf (pair s t) = pairAnswer (parsedRefusal (pair s t)) s t
-answerOf malformed = refusedText (parsedRefusal malformed)
+-- nothing stands after sample 2; 9 comes before all others
+unfoldable pub answerOf : Found (Colour × Colour) → List ℕ
+answerOf (found p []) = pairAnswer (p .0) (p .1)
+answerOf (found p (b ∷ bs)) = refusedText 9
+answerOf missing = refusedText 9
 
--- a line's answer, with its newline
-unfoldable pub renderLine : List ℕ → List ℕ
-renderLine line = answerOf (lineParsed line)
+-- the most bytes of a line that is read
+abbrev pub lineMost : ℕ
+lineMost = 96
+
+-- a line so far: its bytes, or that they are more than a line has
+pub data Held : Type 0 where
+  part : List ℕ → Held
+  tooLong : Held
+
+unfoldable pub heldOf : List ℕ → Held
+heldOf l = cond (ltb lineMost (length l)) tooLong (part l)
+
+unfoldable pub heldAnswer : Held → List ℕ
+heldAnswer (part l) = answerOf (readPair l)
+heldAnswer tooLong = refusedText 9
+
+-- the answers of lines, each with its newline
+unfoldable pub answersOf : List (List ℕ) → List ℕ
+answersOf [] = []
+answersOf (l ∷ ls) = heldAnswer (heldOf l) ++ answersOf ls
 
 -- b comes before the first line
 unfoldable pub startWith : ℕ → List (List ℕ) → List (List ℕ)
@@ -71,10 +68,6 @@ startWith b (l ∷ ls) = (b ∷ l) ∷ ls
 unfoldable pub linesOf : List ℕ → List (List ℕ)
 linesOf [] = []
 linesOf (b ∷ bs) = cond (eqb b 10) ([] ∷ linesOf bs) (startWith b (linesOf bs))
-
-unfoldable pub answersOf : List (List ℕ) → List ℕ
-answersOf [] = []
-answersOf (l ∷ ls) = renderLine l ++ answersOf ls
 
 unfoldable pub textOf : List ℕ → List ℕ
 textOf input = headerText ++ answersOf (linesOf input)

@@ -10,10 +10,12 @@ use lib.IntN.{ℤ, pos, negsuc, negℤ, natAbs, _+ℤ_, _-ℤ_, +ℤ-negℤ-canc
 use Rattle.isqrt.specs.Root.{rootOf}
 use Rattle.isqrt.proofs.RootLaws.{root-largest}
 use Rattle.signed.proofs.SignedLaws.{natAbs-neg, natAbs-mul, natAbs-quot, neg-sub}
-use Rattle.sine.specs.Sine.{cosineOf}
-use Rattle.sine.proofs.SineLaws.{sine-size, cosine-size}
+use Rattle.sine.specs.Sine.{sineOf, cosineOf}
+use Rattle.sine.proofs.SineLaws.{sine-size, cosine-size, sine-not-negative}
 use Rattle.gaussian.specs.Gaussian.{gaussianOf}
-use Rattle.weighting.specs.Weighting.{termOf, hueTermZ, hueTerm, lightnessOffset, lightnessWeightAt, lightnessWeight, chromaWeight, hueWeight, hueDistance, rotationSine, rotation}
+use Rattle.gaussian.proofs.GaussianLaws.{gaussian-le}
+use Rattle.weighting.specs.Weighting.{termOf, hueTermZ, hueTerm, lightnessOffset, lightnessWeightAt, lightnessWeight}
+use Rattle.weighting.specs.Weighting.{chromaWeight, hueWeight, hueDistance, rotationSine, rotation}
 
 -- ---- the hue term
 
@@ -146,3 +148,8 @@ unfolding rotation
 rotation-le z h k =
     let twice : 2 * z ≤ 2000000000 = omega arith in
     omega (arith, mul-le-mul twice (rotation-sine-le (gaussianOf (hueDistance h))))
+
+-- K is not below 0: its angle is at most 60 degrees
+pub rotation-sine-is : (d : ℕ) → sineOf (6 * gaussianOf d / 100) ≡ pos (rotationSine (gaussianOf d))
+unfolding rotationSine
+rotation-sine-is d = sine-not-negative (6 * gaussianOf d / 100) (omega (arith, gaussian-le d))

@@ -1,4 +1,4 @@
--- Steps 9 to 11 of 01's working: the hue term T, the weighting functions SL, SC and SH, and the rotation term R.
+-- Steps 9 to 11: the hue term T, the weighting functions SL, SC and SH, and the rotation term R.
 -- Lightness is a whole number of 1/10,000 (01's grid), a chroma sum of 10^-7, an angle of 10^-6 degree;
 -- cosines, ratios and all the results are whole numbers of 10^-9. Division drops the remainder, toward zero. Assumes nothing.
 use Prim.Native.Nat.{ℕ, _+_, _*_, _/_}
@@ -8,7 +8,7 @@ use Rattle.isqrt.specs.Root.{rootOf}
 use Rattle.sine.specs.Sine.{sineOf, cosineOf}
 use Rattle.gaussian.specs.Gaussian.{gaussianOf}
 
--- ---- step 9: the hue term, 01's T
+-- ---- step 9: the hue term T
 
 -- k hundredths of a cosine c
 unfoldable pub termOf : ℕ → ℤ → ℤ
@@ -36,15 +36,15 @@ lightnessOffset l1 l2 = natAbs (pos (l1 + l2) -ℤ pos 1000000)
 unfoldable pub lightnessWeightAt : ℕ → ℕ
 lightnessWeightAt m = 1000000000 + 750000 * (m * m) / rootOf (1000000 * (m * m + 8000000000))
 
--- 01's SL, of L1 and L2
+-- SL, of L1 and L2
 unfoldable pub lightnessWeight : ℕ → ℕ → ℕ
 lightnessWeight l1 l2 = lightnessWeightAt (lightnessOffset l1 l2)
 
--- 01's SC, of s = C1' + C2'
+-- SC, of s = C1' + C2'
 unfoldable pub chromaWeight : ℕ → ℕ
 chromaWeight s = 1000000000 + 45 * s / 20
 
--- 01's SH, of s and T
+-- SH, of s and T
 unfoldable pub hueWeight : ℕ → ℕ → ℕ
 hueWeight s t = 1000000000 + 3 * s / 4 * t / 1000000000
 
@@ -54,10 +54,11 @@ hueWeight s t = 1000000000 + 3 * s / 4 * t / 1000000000
 unfoldable pub hueDistance : ℕ → ℕ
 hueDistance h = natAbs (pos h -ℤ pos 275000000)
 
--- 01's K at the Gaussian e (01's E): the sine of the angle 6 E / 100. The angle is at most 60 degrees, so that the sine is not below 0.
+-- 01's K at the Gaussian e (01's E): the sine of the angle 6 E / 100. The angle is at most 60 degrees, so that
+-- the sine is not below 0 (`rotation-sine-is` of proofs/WeightingLaws.antt).
 unfoldable pub rotationSine : ℕ → ℕ
 rotationSine e = natAbs (sineOf (6 * e / 100))
 
--- 01's R, of z = Z(s) and the mean hue h. The published RT is minus R.
+-- R, of z = Z(s) and the mean hue h. The published RT is minus R.
 unfoldable pub rotation : ℕ → ℕ → ℕ
 rotation z h = 2 * z * rotationSine (gaussianOf (hueDistance h)) / 1000000000

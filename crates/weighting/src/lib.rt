@@ -1,12 +1,13 @@
-// Steps 9 to 11 of 01's working: the hue term T, the weighting functions SL, SC and SH of a pair of samples, and the rotation term R.
+// Steps 9 to 11: the hue term T, the weighting functions SL, SC and SH of a pair of samples, and the rotation term R.
 // Angles are whole numbers of 10^-6 degree, lightness of 1/10,000, chroma of 10^-7, the results of 10^-9.
 use signed::Int;
 ghost use mathlib.Core.Path.{_≡_};
 ghost use Prim.Native.Nat.{_+_, _*_, _^_, _≤_, _<_};
 ghost use lib.IntN.{pos, _+ℤ_, _-ℤ_};
-ghost use Rattle.signed.specs.Value.{Within};
-ghost use Rattle.sine.specs.Sine.{SineTable, cosineOf};
-ghost use Rattle.gaussian.specs.Gaussian.{GaussianTable};
+ghost use Rattle.signed.specs.Inner.{Within};
+ghost use Rattle.sine.specs.Inner.{SineTable};
+ghost use Rattle.sine.specs.Sine.{cosineOf};
+ghost use Rattle.gaussian.specs.Inner.{GaussianTable};
 ghost use Rattle.weighting.specs.Weighting.{termOf, hueTerm, lightnessWeight, chromaWeight, hueWeight, rotation};
 
 // k hundredths of the cosine of an angle.
@@ -28,7 +29,7 @@ fn hue_term_start(sines: &[u32; 901], h: u64) -> Int
     let first = cosine_term(sines, 17, h + 330000000);
     let second = cosine_term(sines, 24, 2 * h);
     signed::sum(
-        signed::difference(signed::natural(1000000000), first),
+        signed::difference(signed::natural(sine::ONE), first),
         second,
     )
 }
@@ -53,7 +54,7 @@ pub fn lightness_weight(l1: u64, l2: u64) -> u64
 {
     let m = signed::size(signed::natural_difference(l1 + l2, 1000000));
     let square = m * m;
-    1000000000 + 750000 * square / isqrt::isqrt(1000000 * (square + 8000000000))
+    sine::ONE + 750000 * square / isqrt::isqrt(1000000 * (square + 8000000000))
 }
 
 // The weighting function of chroma, SC, of the sum of both samples' chroma.
@@ -61,7 +62,7 @@ pub fn chroma_weight(s: u64) -> u64
     requires { ⌜ s ≤ 4700000000 ⌝ }
     ensures { λ r. ⌜ r ≡ chromaWeight s ⌝ }
 {
-    1000000000 + 45 * s / 20
+    sine::ONE + 45 * s / 20
 }
 
 // The weighting function of hue, SH, of the sum of both samples' chroma and of T.
@@ -70,7 +71,7 @@ pub fn hue_weight(s: u64, t: u64) -> u64
     requires { ⌜ t ≤ 1930000000 ⌝ }
     ensures { λ r. ⌜ r ≡ hueWeight s t ⌝ }
 {
-    1000000000 + 3 * s / 4 * t / 1000000000
+    sine::ONE + 3 * s / 4 * t / sine::ONE
 }
 
 // The rotation term R, of the seventh-power ratio z and the mean hue; the published term is minus R.
@@ -84,5 +85,5 @@ pub fn rotation_term(sines: &[u32; 901], gaussians: &[u32; 1201], z: u64, h: u64
     let distance = signed::size(signed::natural_difference(h, 275000000));
     let e = gaussian::gaussian(gaussians, distance);
     let k = signed::size(sine::sine(sines, 6 * e / 100));
-    2 * z * k / 1000000000
+    2 * z * k / sine::ONE
 }

@@ -6,19 +6,13 @@ use Rattle.chroma.proofs.ChromaLaws.{squares-le, sum-of-squares-is}
 use Rattle.chroma.proofs.chroma.Statement.{statement}
 use Rattle.chroma.proofs.chroma.Tie as tie
 
-sum-of-squares-requires : tie.Need-sum-of-squares-requires
-sum-of-squares-requires c κs = search needs
-
 mul-isqrt : tie.Need-mul-isqrt
 mul-isqrt c =
     omega (arith, sum-of-squares-is (c .before .args .a) (c .before .args .b), squares-le (c .before .pre .0) (c .before .pre .1))
-
-isqrt-requires : tie.Need-isqrt-requires
-isqrt-requires c κs = search needs
 
 returns : tie.Need-returns
 unfolding chromaOf
 returns c = cc
 
 pub chroma-spec : {M : Type 1} → statement M
-chroma-spec = tie.close (tie.spec sum-of-squares-requires mul-isqrt isqrt-requires returns)
+chroma-spec = tie.close (tie.spec (λ c κs. search needs) mul-isqrt (λ c κs. search needs) returns)

@@ -12,12 +12,9 @@ mul-isqrt c = omega (arith, mul-le-mul (c .pre) (c .pre))
 add-isqrt : tie.Need-add-isqrt
 add-isqrt c = omega (arith, mul-le-mul (c .pre) (c .pre))
 
-isqrt-requires : tie.Need-isqrt-requires
-isqrt-requires c κs = search needs
-
 returns : tie.Need-returns
 unfolding hypotenuseOf
 returns c = cc
 
 pub hypotenuse-spec : {M : Type 1} → statement M
-hypotenuse-spec = tie.close (tie.spec mul-isqrt add-isqrt isqrt-requires returns)
+hypotenuse-spec = tie.close (tie.spec mul-isqrt add-isqrt (λ c κs. search needs) returns)

@@ -7,13 +7,7 @@ use Rattle.chroma.proofs.power.Statement.{statement}
 use Rattle.chroma.proofs.power.Tie as tie
 
 small : (c : tie.After-isqrt) → Products (c .before .args .x) (c .isqrt .result)
-small c = products (c .before .pre) (root-small (c .isqrt .ensures) (omega arith))
-
-mul-isqrt : tie.Need-mul-isqrt
-mul-isqrt c = search needs
-
-isqrt-requires : tie.Need-isqrt-requires
-isqrt-requires c κs = search needs
+small c = products (c .before .pre) (root-small (c .isqrt .ensures .0) (omega arith))
 
 mul-result : tie.Need-mul-result
 mul-result c = omega (arith, small c)
@@ -29,4 +23,4 @@ unfolding powerOf
 returns c = cc
 
 pub power-spec : {M : Type 1} → statement M
-power-spec = tie.close (tie.spec mul-isqrt isqrt-requires mul-result mul-result-2 mul-result-3 returns)
+power-spec = tie.close (tie.spec (λ c. search needs) (λ c κs. search needs) mul-result mul-result-2 mul-result-3 returns)

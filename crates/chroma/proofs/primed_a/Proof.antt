@@ -6,18 +6,12 @@ use Rattle.chroma.specs.Chroma.{primedA}
 use Rattle.chroma.proofs.primed_a.Statement.{statement}
 use Rattle.chroma.proofs.primed_a.Tie as tie
 
-sub-scaled : tie.Need-sub-scaled
-sub-scaled c = search needs
-
 scaled-requires : tie.Need-scaled-requires
 scaled-requires c κs = omega (arith, mul-le-mul (c .pre .0) (sub-le 3000000000 (c .args .z)))
-
-divided-requires : tie.Need-divided-requires
-divided-requires c κs = search needs
 
 returns : tie.Need-returns
 unfolding primedA
 returns c = record { is = cc; size = omega (arith, mul-le-mul (c .before .before .pre .0) (sub-le 3000000000 (c .before .before .args .z))) }
 
 pub primed-a-spec : {M : Type 1} → statement M
-primed-a-spec = tie.close (tie.spec sub-scaled scaled-requires divided-requires returns)
+primed-a-spec = tie.close (tie.spec (λ c. search needs) scaled-requires (λ c κs. search needs) returns)

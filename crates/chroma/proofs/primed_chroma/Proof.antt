@@ -4,15 +4,9 @@ use Rattle.chroma.specs.Chroma.{primedChroma}
 use Rattle.chroma.proofs.primed_chroma.Statement.{statement}
 use Rattle.chroma.proofs.primed_chroma.Tie as tie
 
-sum-of-squares-requires : tie.Need-sum-of-squares-requires
-sum-of-squares-requires c κs = search needs
-
-isqrt-requires : tie.Need-isqrt-requires
-isqrt-requires c κs = search needs
-
 returns : tie.Need-returns
 unfolding primedChroma
 returns c = cc
 
 pub primed-chroma-spec : {M : Type 1} → statement M
-primed-chroma-spec = tie.close (tie.spec sum-of-squares-requires isqrt-requires returns)
+primed-chroma-spec = tie.close (tie.spec (λ c κs. search needs) (λ c κs. search needs) returns)

@@ -7,12 +7,6 @@ use Rattle.chroma.proofs.ChromaLaws.{power-le, inverse-le, hypotenuse-g
 use Rattle.chroma.proofs.ratio.Statement.{statement}
 use Rattle.chroma.proofs.ratio.Tie as tie
 
-mul-x : tie.Need-mul-x
-mul-x c = search needs
-
-power-requires : tie.Need-power-requires
-power-requires c κs = search needs
-
 mul-result : tie.Need-mul-result
 mul-result c = omega (arith, power-le _ (c .before .if1 .taken))
 
@@ -21,9 +15,6 @@ hypotenuse-requires c κs = omega (arith, power-le _ (c .before .if1 .taken))
 
 div-result : tie.Need-div-result
 div-result c = omega (arith, hypotenuse-ge-one (c .before .power .result))
-
-div-power : tie.Need-div-power
-div-power c = search needs
 
 power-requires-2 : tie.Need-power-requires-2
 power-requires-2 c κs = inverse-le (c .if1 .left)
@@ -46,12 +37,12 @@ pub ratio-spec : {M : Type 1} → statement M
 ratio-spec =
     tie.close
     (tie.spec
-    mul-x
-    power-requires
+    (λ c. search needs)
+    (λ c κs. search needs)
     mul-result
     hypotenuse-requires
     div-result
-    div-power
+    (λ c. search needs)
     power-requires-2
     hypotenuse-requires-2
     div-result-2

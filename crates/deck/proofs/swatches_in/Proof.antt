@@ -1,42 +1,60 @@
--- `deck::swatches_in` meets its contract: a test of swatches is a test of each column. Assumes nothing.
-use mathlib.Core.Path.{sym, _∙_}
+-- `deck::swatches_in` meets its contract: the swatches before k are within the limits. Assumes nothing.
+use mathlib.Core.Path.{_≡_, ap, _∙_}
+use mathlib.Core.Bool.{true}
+use Prim.Native.Nat.{_-_, _≤_}
+use native.Mathlib.Omega.{arith}
 use borrow.Author.Needs.{needs}
-use Rattle.deck.proofs.Steps.{swatches-last, swatches-second, swatches-first}
-use Rattle.deck.proofs.DeckLaws.{sizes-are}
+use Rattle.places.specs.Places.{every}
+use Rattle.places.proofs.PlacesLaws.{every-none}
+use Rattle.sample.specs.Sample.{colourRefusal}
+use Rattle.deck.specs.Inner.{lanes}
+use Rattle.deck.proofs.Steps.{swatchIn, swatch-more, swatch-fails, swatches-whole}
 use Rattle.deck.proofs.swatches_in.Statement.{statement}
 use Rattle.deck.proofs.swatches_in.Tie as tie
 
-all-within-requires : tie.Need-all-within-requires
-all-within-requires c κs = search needs
+abbrev Inv-loop : tie.InvT-loop
+Inv-loop s l a b k₀ k = (k ≤ s .count) × (every (swatchIn (lanes s l a b)) k ≡ true)
 
-all-within-requires-2 : tie.Need-all-within-requires-2
-all-within-requires-2 c κs = search needs
+abbrev μ-loop : tie.MeasureT-loop
+μ-loop s l a b k₀ k = s .count - k
 
-all-within-requires-3 : tie.Need-all-within-requires-3
-all-within-requires-3 c κs = search needs
+loop-holds : tie.Need-loop-holds Inv-loop μ-loop
+loop-holds c = (omega arith, every-none _)
 
-returns : tie.Need-returns
+colour-at-requires : tie.Need-colour-at-requires Inv-loop μ-loop
+colour-at-requires c κs =
+    let h = c .before .before .before .pre in
+    let k = c .if1 .taken in
+    (h .l-spans _ k, (h .a-spans _ k, h .b-spans _ k))
+
+returns : tie.Need-returns Inv-loop μ-loop
 returns c =
-    c .all-within3 .ensures
-    ∙ swatches-last _ _ _ (sizes-are _ _ _ (c .before .before .before .before .before .pre))
-    (sym (c .before .before .before .before .all-within .ensures) ∙ c .before .before .before .if1 .taken) (sym (c .before .before .all-within2 .ensures) ∙ c .before .if2 .taken)
+    let test = c .before .before .before in
+    let is = c .before .colour-refusal .ensures ∙ ap colourRefusal (c .before .before .colour-at .ensures) in
+    swatch-fails _ (test .before .before .loop .k) _ is (test .if1 .taken) (c .if2 .taken)
 
-returns-2 : tie.Need-returns-2
-returns-2 c =
-    swatches-second _ _ _ (sizes-are _ _ _ (c .before .before .before .before .pre))
-    (sym (c .before .before .before .all-within .ensures) ∙ c .before .before .if1 .taken) (sym (c .before .all-within2 .ensures) ∙ c .if2 .left)
+loop-again : tie.Need-loop-again Inv-loop μ-loop
+loop-again c =
+    let s = c .before .before .before .before .before in
+    let x = s .before .args in
+    let is = c .before .colour-refusal .ensures ∙ ap colourRefusal (c .before .before .colour-at .ensures) in
+    let d = lanes (x .s) (x .l .now) (x .a .now) (x .b .now) in
+    (omega arith, swatch-more d (s .loop .k) _ is (s .loop .inv .1) (c .if2 .left))
 
-returns-3 : tie.Need-returns-3
-returns-3 c =
-    swatches-first _ _ _ (sizes-are _ _ _ (c .before .before .pre)) (sym (c .before .all-within .ensures) ∙ c .if1 .left)
+returns-2 : tie.Need-returns-2 Inv-loop μ-loop
+returns-2 c = swatches-whole _ _ (omega arith) (c .before .before .loop .inv .1)
 
 pub swatches-in-spec : {M : Type 1} → statement M
 swatches-in-spec =
     tie.close
     (tie.spec
-    all-within-requires
-    all-within-requires-2
-    all-within-requires-3
+    Inv-loop
+    μ-loop
+    loop-holds
+    colour-at-requires
+    (λ c κs. search needs)
     returns
-    returns-2
-    returns-3)
+    (λ c. omega arith)
+    (λ c. omega arith)
+    loop-again
+    returns-2)

@@ -2,19 +2,18 @@
 use mathlib.Core.Path.{ap, _∙_}
 use Prim.Native.Nat.{ℕ}
 use lib.Ieee.{lt, ofBits}
-use Rattle.signed.specs.Value.{withSign, int}
+use Rattle.signed.specs.Value.{withSign}
+use Rattle.signed.specs.Inner.{int}
 use Rattle.fixed_point.proofs.Sizes.{zeroF}
 use Rattle.fixed_point.proofs.FixedLaws.{sign-is}
 use borrow.Author.Needs.{needs}
 use Rattle.fixed_point.proofs.fixed.Statement.{statement}
 use Rattle.fixed_point.proofs.fixed.Tie as tie
 
-fixed-size-requires : tie.Need-fixed-size-requires
-fixed-size-requires c κs = search needs
-
 returns : tie.Need-returns
 unfolding int ofBits
-returns c = ap (λ (n : ℕ). withSign (lt (c .before .args .x) zeroF) n) (c .fixed-size .ensures) ∙ sign-is (c .before .args .x) (c .before .pre .is-finite)
+returns c = ap (λ (n : ℕ). withSign (lt (c .before .args .x) zeroF) n) (c .fixed-size .ensures) ∙ sign-is
+    (c .before .args .x) (c .before .pre .is-finite)
 
 pub fixed-spec : {M : Type 1} → statement M
-fixed-spec = tie.close (tie.spec fixed-size-requires returns)
+fixed-spec = tie.close (tie.spec (λ c κs. search needs) returns)

@@ -1,6 +1,7 @@
 -- `fixed_point::fixed_reading` meets its contract. Assumes nothing.
 use lib.Dec.{lit≤}
-use Rattle.fixed_point.specs.Samples.{labOf, sampleOf}
+use Rattle.sample.specs.Inner.{labOf}
+use Rattle.fixed_point.specs.Samples.{sampleOf}
 use Rattle.fixed_point.proofs.FixedLaws.{at-most-128, lightness-size, opponent-size, reading-accepted}
 use Rattle.fixed_point.proofs.fixed_reading.Statement.{statement}
 use Rattle.fixed_point.proofs.fixed_reading.Tie as tie

@@ -3,19 +3,18 @@ use mathlib.Core.Path.{_≡_, sym, _∙_, subst}
 use Prim.Native.Nat.{ℕ, _*_, _/_, _<_}
 use native.Mathlib.Omega.{arith}
 use lib.Ieee.Positive.{num, den, den-pos}
-use Rattle.fixed_point.proofs.Nearest.{small, cut-asks, cut-is, cut-small, cast-asks, whole-value, equal-whole, unequal-whole, size-even, size-half, size-above}
+use Rattle.fixed_point.proofs.Nearest.{small, cut-asks, cut-is, cut-small, cast-asks, whole-value, equal-whole}
+use Rattle.fixed_point.proofs.Nearest.{unequal-whole, size-even, size-half, size-above}
 use borrow.Author.Needs.{needs}
 use Rattle.fixed_point.proofs.fixed_size.Statement.{statement}
 use Rattle.fixed_point.proofs.fixed_size.Tie as tie
-
-halves-requires : tie.Need-halves-requires
-halves-requires c κs = search needs
 
 truncating-f64-to-u64-requires : tie.Need-truncating-f64-to-u64-requires
 truncating-f64-to-u64-requires c κs = cut-asks _ _ _ (small _ (c .before .pre)) (c .halves .ensures)
 
 -- the number of whole halves
-cut : (c : tie.After-truncating-f64-to-u64) → c .truncating-f64-to-u64 .result ≡ num (c .before .before .args .x) * 20000 / den (c .before .before .args .x)
+cut : (c : tie.After-truncating-f64-to-u64) → c .truncating-f64-to-u64 .result ≡ num (c .before .before .args .x) * 20000 /
+    den (c .before .before .args .x)
 cut c = c .truncating-f64-to-u64 .ensures ∙ cut-is _ _ _ (small _ (c .before .before .pre)) (c .before .halves .ensures)
 
 few : (c : tie.After-truncating-f64-to-u64) → c .truncating-f64-to-u64 .result < 2560001
@@ -37,9 +36,6 @@ returns-2 c =
     ∙ size-half _ (at .before .before .pre) _ (cut at) (c .before .before .before .if1 .left)
     (equal-whole _ _ _ _ _ (at .before .halves .ensures) (whole-value _ (few at)) (c .before .if2 .taken))
 
-add-result : tie.Need-add-result
-add-result c = search needs
-
 returns-3 : tie.Need-returns-3
 returns-3 c =
     let at = c .before .before .before in
@@ -50,11 +46,11 @@ pub fixed-size-spec : {M : Type 1} → statement M
 fixed-size-spec =
     tie.close
     (tie.spec
-    halves-requires
+    (λ c κs. search needs)
     truncating-f64-to-u64-requires
     returns
     int-to-float-if2
     half-requires
     returns-2
-    add-result
+    (λ c. search needs)
     returns-3)

@@ -8,8 +8,5 @@ use Rattle.fixed_point.proofs.fixed_tolerance.Tie as tie
 fixed-size-requires : tie.Need-fixed-size-requires
 fixed-size-requires c κs = at-most-128 (lit≤ tt) (lightness-size _ (tolerance-accepted _ (c .pre)))
 
-returns : tie.Need-returns
-returns c = search needs
-
 pub fixed-tolerance-spec : {M : Type 1} → statement M
-fixed-tolerance-spec = tie.close (tie.spec fixed-size-requires returns)
+fixed-tolerance-spec = tie.close (tie.spec fixed-size-requires (λ c. search needs))

@@ -5,12 +5,9 @@ use borrow.Author.Needs.{needs}
 use Rattle.fixed_point.proofs.half.Statement.{statement}
 use Rattle.fixed_point.proofs.half.Tie as tie
 
-add-result : tie.Need-add-result
-add-result c = search needs
-
 returns : tie.Need-returns
 unfolding halfOf
 returns c = refl
 
 pub half-spec : {M : Type 1} → statement M
-half-spec = tie.close (tie.spec add-result returns)
+half-spec = tie.close (tie.spec (λ c. search needs) returns)

@@ -6,9 +6,6 @@ use borrow.Author.Needs.{needs}
 use Rattle.fixed_point.proofs.halves.Statement.{statement}
 use Rattle.fixed_point.proofs.halves.Tie as tie
 
-f32-to-f64-with-nan-requires : tie.Need-f32-to-f64-with-nan-requires
-f32-to-f64-with-nan-requires c κs = search needs
-
 returns : tie.Need-returns
 unfolding ofBits
 returns c = zero-size (c .before .before .args .x) (rw (c .before .f32-to-f64-with-nan .ensures) at (c .if1 .taken))
@@ -28,4 +25,4 @@ returns-3 c =
     rw same (positive-size (s .args .x) (passes _ (s .good .0 .1)) (s .pre) (rw same at (c .before .if1 .left)) (rw same at (c .if2 .left)))
 
 pub halves-spec : {M : Type 1} → statement M
-halves-spec = tie.close (tie.spec f32-to-f64-with-nan-requires returns returns-2 returns-3)
+halves-spec = tie.close (tie.spec (λ c κs. search needs) returns returns-2 returns-3)

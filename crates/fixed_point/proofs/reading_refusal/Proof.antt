@@ -21,56 +21,48 @@ a-inside : (c : tie.Else3) → not (opponentIn (c .before .before .before .befor
 unfolding ofBits neg
 a-inside c = sym (c .before .outside2 .ensures) ∙ c .if3 .left
 
-some-not-finite-requires : tie.Need-some-not-finite-requires
-some-not-finite-requires c κs = search needs
-
 returns : tie.Need-returns
 unfolding ofBits neg
 returns c = sym (reading-by (c .before .before .args .r) (sym (c .before .some-not-finite .ensures) ∙ c .if1 .taken) refl refl refl)
 
-outside-requires : tie.Need-outside-requires
-outside-requires c κs = search needs
-
 returns-2 : tie.Need-returns-2
 unfolding ofBits neg
-returns-2 c = sym (reading-by (c .before .before .before .before .args .r) (all-finite (c .before .before)) (sym (c .before .outside .ensures) ∙ c .if2 .taken) refl refl)
-
-outside-requires-2 : tie.Need-outside-requires-2
-outside-requires-2 c κs = search needs
+returns-2 c = sym (reading-by (c .before .before .before .before .args .r) (all-finite (c .before .before))
+    (sym (c .before .outside .ensures) ∙ c .if2 .taken) refl refl)
 
 returns-3 : tie.Need-returns-3
 unfolding ofBits neg
 returns-3 c =
     let e = c .before .before in
-    sym (reading-by (e .before .before .before .before .args .r) (all-finite (e .before .before)) (l-inside e) (sym (c .before .outside2 .ensures) ∙ c .if3 .taken) refl)
-
-outside-requires-3 : tie.Need-outside-requires-3
-outside-requires-3 c κs = search needs
+    sym (reading-by (e .before .before .before .before .args .r) (all-finite (e .before .before)) (l-inside e)
+    (sym (c .before .outside2 .ensures) ∙ c .if3 .taken) refl)
 
 returns-4 : tie.Need-returns-4
 unfolding ofBits neg
 returns-4 c =
     let e = c .before .before in
     let d = e .before .before in
-    sym (reading-by (d .before .before .before .before .args .r) (all-finite (d .before .before)) (l-inside d) (a-inside e) (sym (c .before .outside3 .ensures) ∙ c .if4 .taken))
+    sym (reading-by (d .before .before .before .before .args .r) (all-finite (d .before .before)) (l-inside d) (a-inside e)
+    (sym (c .before .outside3 .ensures) ∙ c .if4 .taken))
 
 returns-5 : tie.Need-returns-5
 unfolding ofBits neg
 returns-5 c =
     let e = c .before .before in
     let d = e .before .before in
-    sym (reading-by (d .before .before .before .before .args .r) (all-finite (d .before .before)) (l-inside d) (a-inside e) (sym (c .before .outside3 .ensures) ∙ c .if4 .left))
+    sym (reading-by (d .before .before .before .before .args .r) (all-finite (d .before .before)) (l-inside d) (a-inside e)
+    (sym (c .before .outside3 .ensures) ∙ c .if4 .left))
 
 pub reading-refusal-spec : {M : Type 1} → statement M
 reading-refusal-spec =
     tie.close
     (tie.spec
-    some-not-finite-requires
+    (λ c κs. search needs)
     returns
-    outside-requires
+    (λ c κs. search needs)
     returns-2
-    outside-requires-2
+    (λ c κs. search needs)
     returns-3
-    outside-requires-3
+    (λ c κs. search needs)
     returns-4
     returns-5)

@@ -5,9 +5,6 @@ use borrow.Author.Needs.{needs}
 use Rattle.fixed_point.proofs.tolerance_refusal.Statement.{statement}
 use Rattle.fixed_point.proofs.tolerance_refusal.Tie as tie
 
-outside-requires : tie.Need-outside-requires
-outside-requires c κs = search needs
-
 returns : tie.Need-returns
 unfolding ofBits toleranceRefusal
 returns c = cc
@@ -17,4 +14,4 @@ unfolding ofBits toleranceRefusal
 returns-2 c = cc
 
 pub tolerance-refusal-spec : {M : Type 1} → statement M
-tolerance-refusal-spec = tie.close (tie.spec outside-requires returns returns-2)
+tolerance-refusal-spec = tie.close (tie.spec (λ c κs. search needs) returns returns-2)

@@ -37,23 +37,8 @@ entries c =
 returns : tie.Need-returns
 returns c = sym (gaussian-beyond _ (omega arith))
 
-mul-here : tie.Need-mul-here
-mul-here c = search needs
-
-element-copy-out-here : tie.Need-element-copy-out-here
-element-copy-out-here c = search needs
-
 cast-here : tie.Need-cast-here
 cast-here c = omega (arith, entries (c .before))
-
-add-next : tie.Need-add-next
-add-next c = search needs
-
-mul-next : tie.Need-mul-next
-mul-next c = search needs
-
-element-copy-out-next : tie.Need-element-copy-out-next
-element-copy-out-next c = search needs
 
 cast-next : tie.Need-cast-next
 cast-next c = omega (arith, entries (c .before .before))
@@ -76,12 +61,12 @@ gaussian-spec =
     tie.close
     (tie.spec
     returns
-    mul-here
-    element-copy-out-here
+    (λ c. search needs)
+    (λ c. search needs)
     cast-here
-    add-next
-    mul-next
-    element-copy-out-next
+    (λ c. search needs)
+    (λ c. search needs)
+    (λ c. search needs)
     cast-next
     sub-result
     mul-result

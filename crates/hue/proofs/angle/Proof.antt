@@ -23,9 +23,6 @@ found c =
 tenth-requires : tie.Need-tenth-requires
 tenth-requires c κs = (c .pre .0, ((omega arith, omega arith), ((omega arith, omega arith), reaches-first _ _)))
 
-mul-result : tie.Need-mul-result
-mul-result c = search needs
-
 mul-result-2 : tie.Need-mul-result-2
 mul-result-2 c = omega (arith, found c)
 
@@ -48,4 +45,4 @@ returns c =
 pub angle-spec : {M : Type 1} → statement M
 angle-spec =
     tie.close
-    (tie.spec tenth-requires mul-result mul-result-2 add-result rest-requires add-result-2 returns)
+    (tie.spec tenth-requires (λ c. search needs) mul-result-2 add-result rest-requires add-result-2 returns)

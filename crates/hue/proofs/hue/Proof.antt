@@ -1,4 +1,5 @@
--- `hue::hue` meets its contract: in the quadrants 0 and 2 the point turned is (|a|, |b|), in 1 and 3 (|b|, |a|), and where a or b is not 0 the chroma is not 0.
+-- `hue::hue` meets its contract: in the quadrants 0 and 2 the point turned is (|a|, |b|), in 1 and 3 (|b|, |a|), and where
+-- a or b is not 0 the chroma is not 0.
 -- Assumes nothing.
 use mathlib.Core.Path.{_≡_, sym, _∙_}
 use mathlib.Core.Bool.{Bool, true, false, cond}
@@ -8,7 +9,7 @@ use borrow.Author.Tests.{eq-eqb, ne-eqb}
 use lib.Dec.{eqb}
 use lib.IntN.{ℤ}
 use Rattle.signed.specs.declared.Int.{Int}
-use Rattle.signed.specs.Value.{int}
+use Rattle.signed.specs.Inner.{int}
 use Rattle.signed.proofs.SignedLaws.{int-size}
 use Rattle.hue.specs.Hue.{grey, quadrantOf, turnedX, turnedY, angleOf, hueIn, hueOf}
 use Rattle.hue.proofs.HueLaws.{quadrant-le, quadrant-grey, quadrant-of-none, hue-grey, hue-coloured}
@@ -42,9 +43,6 @@ asked c =
       chroma-pos (s .args .a) (s .args .b) (s .args .chroma) (c .before .quadrant .ensures) (c .if1 .left) (s .pre .1 .0 .0) (s .pre .1 .0 .1),
     )
 
-quadrant-requires : tie.Need-quadrant-requires
-quadrant-requires c κs = search needs
-
 returns : tie.Need-returns
 returns c = sym (hue-grey _ _ _ (quadrant-grey _ _ ∙ eq-eqb _ _ (sym (c .before .quadrant .ensures) ∙ c .if1 .taken)))
 
@@ -59,12 +57,14 @@ angle-requires-2 c κs =
     (s .0, (asked (c .before) .0, ((s .1 .0 .1, s .1 .0 .0), (asked (c .before) .1, s .1 .1))))
 
 returns-2 : tie.Need-returns-2
-returns-2 c = hue-turned _ _ _ true (c .before .before .before .quadrant .ensures) (c .before .before .if1 .left) (eq-eqb _ _ (c .before .if2 .taken)) (c .angle .ensures)
+returns-2 c = hue-turned _ _ _ true (c .before .before .before .quadrant .ensures) (c .before .before .if1 .left)
+    (eq-eqb _ _ (c .before .if2 .taken)) (c .angle .ensures)
 
 returns-3 : tie.Need-returns-3
-returns-3 c = hue-turned _ _ _ false (c .before .before .before .quadrant .ensures) (c .before .before .if1 .left) (ne-eqb _ _ (c .before .if2 .left)) (c .angle2 .ensures)
+returns-3 c = hue-turned _ _ _ false (c .before .before .before .quadrant .ensures) (c .before .before .if1 .left)
+    (ne-eqb _ _ (c .before .if2 .left)) (c .angle2 .ensures)
 
 pub hue-spec : {M : Type 1} → statement M
 hue-spec =
     tie.close
-    (tie.spec quadrant-requires returns angle-requires angle-requires-2 returns-2 returns-3)
+    (tie.spec (λ c κs. search needs) returns angle-requires angle-requires-2 returns-2 returns-3)

@@ -7,17 +7,8 @@ use borrow.Author.Needs.{needs}
 use Rattle.hue.proofs.reached.Statement.{statement}
 use Rattle.hue.proofs.reached.Tie as tie
 
-entry-requires : tie.Need-entry-requires
-entry-requires c κs = search needs
-
 mul-result : tie.Need-mul-result
 mul-result c = omega (arith, mul-le-mul (c .before .pre .1 .0 .0) (c .entry .ensures .size))
-
-sub-entry : tie.Need-sub-entry
-sub-entry c = search needs
-
-entry-requires-2 : tie.Need-entry-requires-2
-entry-requires-2 c κs = search needs
 
 mul-result-2 : tie.Need-mul-result-2
 mul-result-2 c = omega (arith, mul-le-mul (c .before .before .pre .1 .0 .1) (c .entry2 .ensures .size))
@@ -28,4 +19,4 @@ returns c = cc
 
 pub reached-spec : {M : Type 1} → statement M
 reached-spec =
-    tie.close (tie.spec entry-requires mul-result sub-entry entry-requires-2 mul-result-2 returns)
+    tie.close (tie.spec (λ c κs. search needs) mul-result (λ c. search needs) (λ c κs. search needs) mul-result-2 returns)

@@ -9,26 +9,14 @@ use borrow.Author.Needs.{needs}
 use Rattle.hue.proofs.rest.Statement.{statement}
 use Rattle.hue.proofs.rest.Tie as tie
 
-sub-entry : tie.Need-sub-entry
-sub-entry c = search needs
-
-entry-requires : tie.Need-entry-requires
-entry-requires c κs = search needs
-
 mul-v : tie.Need-mul-v
 mul-v c = omega (arith, mul-le-mul (c .before .pre .1 .0 .1) (c .entry .ensures .size))
-
-entry-requires-2 : tie.Need-entry-requires-2
-entry-requires-2 c κs = search needs
 
 mul-v-2 : tie.Need-mul-v-2
 mul-v-2 c = omega (arith, mul-le-mul (c .before .before .pre .1 .0 .0) (c .entry2 .ensures .size))
 
 sub-v : tie.Need-sub-v
 sub-v c = reached-le _ _ _ (c .before .before .pre .1 .1 .1 .1) (c .entry2 .ensures .is) (c .before .entry .ensures .is)
-
-div-v : tie.Need-div-v
-div-v c = search needs
 
 mul-degrees : tie.Need-mul-degrees
 mul-degrees c =
@@ -50,13 +38,13 @@ pub rest-spec : {M : Type 1} → statement M
 rest-spec =
     tie.close
     (tie.spec
-    sub-entry
-    entry-requires
+    (λ c. search needs)
+    (λ c κs. search needs)
     mul-v
-    entry-requires-2
+    (λ c κs. search needs)
     mul-v-2
     sub-v
-    div-v
+    (λ c. search needs)
     mul-degrees
     returns
     returns-2)

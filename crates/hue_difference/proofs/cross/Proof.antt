@@ -7,15 +7,6 @@ use Rattle.hue_difference.specs.HueDifference.{crossOf}
 use Rattle.hue_difference.proofs.cross.Statement.{statement}
 use Rattle.hue_difference.proofs.cross.Tie as tie
 
-product-requires : tie.Need-product-requires
-product-requires c κs = search needs
-
-product-requires-2 : tie.Need-product-requires-2
-product-requires-2 c κs = search needs
-
-difference-requires : tie.Need-difference-requires
-difference-requires c κs = search needs
-
 returns : tie.Need-returns
 unfolding crossOf
 returns c =
@@ -25,4 +16,4 @@ returns c =
     }
 
 pub cross-spec : {M : Type 1} → statement M
-cross-spec = tie.close (tie.spec product-requires product-requires-2 difference-requires returns)
+cross-spec = tie.close (tie.spec (λ c κs. search needs) (λ c κs. search needs) (λ c κs. search needs) returns)

@@ -7,15 +7,6 @@ use Rattle.hue_difference.specs.HueDifference.{dotOf}
 use Rattle.hue_difference.proofs.dot.Statement.{statement}
 use Rattle.hue_difference.proofs.dot.Tie as tie
 
-product-requires : tie.Need-product-requires
-product-requires c κs = search needs
-
-product-requires-2 : tie.Need-product-requires-2
-product-requires-2 c κs = search needs
-
-sum-requires : tie.Need-sum-requires
-sum-requires c κs = search needs
-
 returns : tie.Need-returns
 unfolding dotOf
 returns c =
@@ -25,4 +16,4 @@ returns c =
     }
 
 pub dot-spec : {M : Type 1} → statement M
-dot-spec = tie.close (tie.spec product-requires product-requires-2 sum-requires returns)
+dot-spec = tie.close (tie.spec (λ c κs. search needs) (λ c κs. search needs) (λ c κs. search needs) returns)

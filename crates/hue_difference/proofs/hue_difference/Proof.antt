@@ -4,10 +4,10 @@ use mathlib.Core.Path.{_∙_}
 use Prim.Native.Nat.{ℕ, _≤_}
 use native.Mathlib.Omega.{arith}
 use Rattle.signed.specs.declared.Int.{Int}
-use Rattle.signed.specs.Value.{int}
+use Rattle.signed.specs.Inner.{int}
 use Rattle.signed.proofs.SignedLaws.{int-size}
 use Rattle.hue_difference.specs.HueDifference.{hueSize, hueDifferenceOf}
-use Rattle.hue_difference.specs.Facts.{Primed}
+use Rattle.hue_difference.specs.Inner.{Primed}
 use Rattle.hue_difference.proofs.Sizes.{hue-size-le}
 use borrow.Author.Needs.{needs}
 use Rattle.hue_difference.proofs.hue_difference.Statement.{statement}
@@ -19,9 +19,6 @@ size-le :
     hueSize (int a1) (int b1) c1 (int a2) (int b2) c2 ≤ 4615105632
 size-le a1 b1 c1 a2 b2 c2 s t =
     hue-size-le (int a1) (int b1) c1 (int a2) (int b2) c2 (rw (int-size a1, int-size b1) s) (rw (int-size a2, int-size b2) t)
-
-natural-requires : tie.Need-natural-requires
-natural-requires c κs = search needs
 
 returns : tie.Need-returns
 unfolding hueDifferenceOf
@@ -40,4 +37,4 @@ returns-2 c =
     }
 
 pub hue-difference-spec : {M : Type 1} → statement M
-hue-difference-spec = tie.close (tie.spec natural-requires returns hue-size-requires returns-2)
+hue-difference-spec = tie.close (tie.spec (λ c κs. search needs) returns hue-size-requires returns-2)

@@ -10,7 +10,7 @@ use lib.Signed.{ltZ}
 use Rattle.isqrt.specs.Root.{rootOf}
 use Rattle.isqrt.proofs.RootLaws.{root-largest, root-lt-pow}
 use Rattle.signed.specs.declared.Int.{Int}
-use Rattle.signed.specs.Value.{int}
+use Rattle.signed.specs.Inner.{int}
 use Rattle.signed.proofs.SignedLaws.{int-size}
 use Rattle.hue_difference.specs.HueDifference.{crossOf, dotOf, hueSize}
 use Rattle.hue_difference.proofs.Sizes.{plus-size, minus-size, products-le, dot-sizes, cross-sizes}
@@ -38,23 +38,17 @@ add-isqrt c =
     let s = c .before .before .pre in
     omega (arith, products-le (s .0) (s .1 .0), dot-sizes (s .0) (s .1 .0), c .before .dot .ensures .size)
 
-isqrt-requires : tie.Need-isqrt-requires
-isqrt-requires c κs = search needs
-
-is-negative-requires : tie.Need-is-negative-requires
-is-negative-requires c κs = search needs
-
 mul-result : tie.Need-mul-result
 mul-result c =
     let s = c .before .before .before .before .before in
     let d = c .before .before .before .before .dot in
     let h : (s .args .c1 * s .args .c2 + d .result .n) / 2 < 2 ^ 64 =
     omega (arith, products-le (s .pre .0) (s .pre .1 .0), dot-sizes (s .pre .0) (s .pre .1 .0), d .ensures .size) in
-    omega (arith, root-lt-pow _ h, c .before .before .isqrt .ensures)
+    omega (arith, root-lt-pow _ h, c .before .before .isqrt .ensures .0)
 
 returns : tie.Need-returns
 returns c =
-    size-below _ _ _ _ _ _ _ _ (c .before .before .before .before .dot .ensures .is) (c .before .before .isqrt .ensures)
+    size-below _ _ _ _ _ _ _ _ (c .before .before .before .before .dot .ensures .is) (c .before .before .isqrt .ensures .0)
     (sym (c .before .is-negative .ensures) ∙ c .if1 .taken)
 
 cross-requires : tie.Need-cross-requires
@@ -66,12 +60,12 @@ div-result c =
     let s = c .before .before .before .before .before .before .before in
     let n = s .args .c1 * s .args .c2 + c .before .before .before .before .before .before .dot .result .n in
     let h : 1 * 1 ≤ n / 2 = omega (arith, mul-le-mul (s .pre .1 .1 .0) (s .pre .1 .1 .1)) in
-    omega (arith, root-largest (n / 2) 1 h, c .before .before .before .before .isqrt .ensures)
+    omega (arith, root-largest (n / 2) 1 h, c .before .before .before .before .isqrt .ensures .0)
 
 returns-2 : tie.Need-returns-2
 returns-2 c =
     let b = c .before .before .before in
-    size-above _ _ _ _ _ _ _ _ (b .before .before .before .dot .ensures .is) (b .before .isqrt .ensures) _ (c .before .cross .ensures .is)
+    size-above _ _ _ _ _ _ _ _ (b .before .before .before .dot .ensures .is) (b .before .isqrt .ensures .0) _ (c .before .cross .ensures .is)
     (sym (b .is-negative .ensures) ∙ c .before .before .if1 .left)
 
 pub hue-size-spec : {M : Type 1} → statement M
@@ -81,8 +75,8 @@ hue-size-spec =
     dot-requires
     mul-isqrt
     add-isqrt
-    isqrt-requires
-    is-negative-requires
+    (λ c κs. search needs)
+    (λ c κs. search needs)
     mul-result
     returns
     cross-requires

@@ -5,15 +5,9 @@ use Rattle.hue_difference.specs.HueDifference.{meanHueOf}
 use Rattle.hue_difference.proofs.mean_hue.Statement.{statement}
 use Rattle.hue_difference.proofs.mean_hue.Tie as tie
 
-add-sum : tie.Need-add-sum
-add-sum c = search needs
-
 returns : tie.Need-returns
 unfolding meanHueOf
 returns c = rw (c .if1 .taken)
-
-add-result : tie.Need-add-result
-add-result c = search needs
 
 returns-2 : tie.Need-returns-2
 unfolding meanHueOf
@@ -28,4 +22,4 @@ unfolding meanHueOf
 returns-4 c = rw (c .before .if1 .left, c .if2 .left)
 
 pub mean-hue-spec : {M : Type 1} → statement M
-mean-hue-spec = tie.close (tie.spec add-sum returns add-result returns-2 returns-3 returns-4)
+mean-hue-spec = tie.close (tie.spec (λ c. search needs) returns (λ c. search needs) returns-2 returns-3 returns-4)

@@ -41,24 +41,6 @@ cross-requires : tie.Need-cross-requires
 cross-requires c κs =
     omega (arith, mul-le-mul (c .pre .0 .0) (c .pre .1 .0 .1), mul-le-mul (c .pre .1 .0 .0) (c .pre .0 .1))
 
-is-positive-requires : tie.Need-is-positive-requires
-is-positive-requires c κs = search needs
-
-is-negative-requires : tie.Need-is-negative-requires
-is-negative-requires c κs = search needs
-
-is-zero-requires : tie.Need-is-zero-requires
-is-zero-requires c κs = search needs
-
-later-requires : tie.Need-later-requires
-later-requires c κs = search needs
-
-later-requires-2 : tie.Need-later-requires-2
-later-requires-2 c κs = search needs
-
-is-minus-requires : tie.Need-is-minus-requires
-is-minus-requires c κs = search needs
-
 returns : tie.Need-returns
 returns c =
     let s = c .before .before .before .before .before .before .before in
@@ -73,7 +55,6 @@ returns c =
       far-is = far-by _ _ _ _ q1 q2 x p n (c .before .before .later .ensures) (c .before .later2 .ensures);
       none-is = none-by _ _ _ _ q1 q2 x z o;
       negative-is = minus-by _ _ _ _ q1 q2 x p n (c .before .before .later .ensures) o (c .is-minus .ensures);
-      opposite-is = o;
     }
 
 pub side-of-spec : {M : Type 1} → statement M
@@ -81,10 +62,10 @@ side-of-spec =
     tie.close
     (tie.spec
     cross-requires
-    is-positive-requires
-    is-negative-requires
-    is-zero-requires
-    later-requires
-    later-requires-2
-    is-minus-requires
+    (λ c κs. search needs)
+    (λ c κs. search needs)
+    (λ c κs. search needs)
+    (λ c κs. search needs)
+    (λ c κs. search needs)
+    (λ c κs. search needs)
     returns)

@@ -45,8 +45,9 @@ module _ {n root left : ℕ} (h : Between n root left) (some : 0 < left) where
   left-out : n < (root + bit (left - 1)) * (root + bit (left - 1)) → Between n root (left - 1)
   left-out t = record { low = h .low; high = rw (← tried-bit) t; small = omega (arith, tried-bit, tried-small); few = omega arith }
 
-found : {n root : ℕ} (left : ℕ) → Between n root left → left ≤ 0 → root ≡ rootOf n
-found zero h none = sym (root-unique _ _ (h .low) (h .high))
+found : {n root : ℕ} (left : ℕ) → Between n root left → left ≤ 0
+    → (root ≡ rootOf n) × ((root * root ≤ n) × (n < (root + 1) * (root + 1)))
+found zero h none = (sym (root-unique _ _ (h .low) (h .high)), (h .low, h .high))
 found (suc k) h none = absurd (omega arith)
 
 abbrev Inv-loop : tie.InvT-loop
@@ -58,29 +59,14 @@ abbrev μ-loop : tie.MeasureT-loop
 loop-holds : tie.Need-loop-holds Inv-loop μ-loop
 loop-holds c = record { low = omega arith; high = omega arith; small = omega arith; few = omega arith }
 
-sub-left : tie.Need-sub-left Inv-loop μ-loop
-sub-left c = omega arith
-
-cast-tried : tie.Need-cast-tried Inv-loop μ-loop
-cast-tried c = omega arith
-
-shl-tried : tie.Need-shl-tried Inv-loop μ-loop
-shl-tried c = omega arith
-
 add-tried : tie.Need-add-tried Inv-loop μ-loop
 add-tried c = omega (arith, tried-small (c .before .loop .inv) (omega arith))
 
 mul-if1 : tie.Need-mul-if1 Inv-loop μ-loop
 mul-if1 c = let t = tried-small (c .before .loop .inv) (omega arith) in omega (arith, mul-le-mul t t)
 
-loop-less : tie.Need-loop-less Inv-loop μ-loop
-loop-less c = omega arith
-
 loop-again : tie.Need-loop-again Inv-loop μ-loop
 loop-again c = taken (c .before .before .loop .inv) (omega arith) (omega arith)
-
-loop-less-2 : tie.Need-loop-less-2 Inv-loop μ-loop
-loop-less-2 c = omega arith
 
 loop-again-2 : tie.Need-loop-again-2 Inv-loop μ-loop
 loop-again-2 c = left-out (c .before .before .loop .inv) (omega arith) (omega arith)
@@ -95,13 +81,13 @@ isqrt-spec =
     Inv-loop
     μ-loop
     loop-holds
-    sub-left
-    cast-tried
-    shl-tried
+    (λ c. omega arith)
+    (λ c. omega arith)
+    (λ c. omega arith)
     add-tried
     mul-if1
-    loop-less
+    (λ c. omega arith)
     loop-again
-    loop-less-2
+    (λ c. omega arith)
     loop-again-2
     returns)

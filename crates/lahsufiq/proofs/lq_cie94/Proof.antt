@@ -5,19 +5,10 @@ use borrow.Author.Needs.{needs}
 use Rattle.lahsufiq.proofs.lq_cie94.Statement.{statement}
 use Rattle.lahsufiq.proofs.lq_cie94.Tie as tie
 
-cie94-requires : tie.Need-cie94-requires
-cie94-requires c κs = search needs
-
-value-requires : tie.Need-value-requires
-value-requires c κs = search needs
-
-number-requires : tie.Need-number-requires
-number-requires c κs = search needs
-
 returns : tie.Need-returns
 returns c =
     let answer = c .before .before .cie94 .ensures in
     record { refusal = c .number .ensures ∙ ap refusalOf answer; difference = c .before .value .ensures ∙ ap differenceOf answer }
 
 pub lq-cie94-spec : {M : Type 1} → statement M
-lq-cie94-spec = tie.close (tie.spec cie94-requires value-requires number-requires returns)
+lq-cie94-spec = tie.close (tie.spec (λ c κs. search needs) (λ c κs. search needs) (λ c κs. search needs) returns)

@@ -6,25 +6,17 @@ use borrow.Author.Needs.{needs}
 use Rattle.lahsufiq.proofs.lq_verdict.Statement.{statement}
 use Rattle.lahsufiq.proofs.lq_verdict.Tie as tie
 
-verdict-requires : tie.Need-verdict-requires
-verdict-requires c κs = search needs
-
-value-requires : tie.Need-value-requires
-value-requires c κs = search needs
-
-one-requires : tie.Need-one-requires
-one-requires c κs = search needs
-
-number-requires : tie.Need-number-requires
-number-requires c κs = search needs
-
 returns : tie.Need-returns
 returns c =
     let v = c .before .before .before .verdict .ensures in (
-      record { refusal = c .number .ensures ∙ ap refusalOf (v .difference); difference = c .before .before .value .ensures ∙ ap differenceOf (v .difference) },
+      record {
+        refusal = c .number .ensures ∙ ap refusalOf (v .difference);
+        difference = c .before .before .value .ensures ∙
+            ap differenceOf (v .difference);
+      },
       c .before .one .ensures ∙ ap oneOf (v .within),
     )
 
 pub lq-verdict-spec : {M : Type 1} → statement M
 lq-verdict-spec =
-    tie.close (tie.spec verdict-requires value-requires one-requires number-requires returns)
+    tie.close (tie.spec (λ c κs. search needs) (λ c κs. search needs) (λ c κs. search needs) (λ c κs. search needs) returns)

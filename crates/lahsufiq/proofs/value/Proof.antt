@@ -6,18 +6,9 @@ use borrow.Author.Needs.{needs}
 use Rattle.lahsufiq.proofs.value.Statement.{statement}
 use Rattle.lahsufiq.proofs.value.Tie as tie
 
-enum-known-d : tie.Need-enum-known-d
-enum-known-d c = search needs
-
-enum-told : tie.Need-enum-told
-enum-told c = search needs
-
-returns : tie.Need-returns
-returns c = search needs
-
 returns-2 : tie.Need-returns-2
 unfolding ofBits
 returns-2 c = sym (ap differenceOf (c .enum-told .given .1))
 
 pub value-spec : {M : Type 1} → statement M
-value-spec = tie.close (tie.spec enum-known-d enum-told returns returns-2)
+value-spec = tie.close (tie.spec (λ c. search needs) (λ c. search needs) (λ c. search needs) returns-2)

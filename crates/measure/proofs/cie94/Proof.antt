@@ -1,17 +1,14 @@
 -- `measure::cie94` meets its contract. Assumes nothing.
 use mathlib.Core.Path.{sym, ap, _∙_, subst}
-use Rattle.fixed_point.specs.Samples.{WeightsIn}
+use Rattle.sample.specs.Inner.{WeightsIn}
 use Rattle.fixed_point.proofs.FixedLaws.{weights-in}
-use Rattle.difference.specs.Differences.{cie94Of}
+use Rattle.difference.specs.Cie94.{cie94Of}
 use Rattle.measure.specs.Answers.{doubleOf}
 use Rattle.measure.specs.declared.Difference.the-variants.{Refused}
 use Rattle.measure.proofs.Refusing.{refused, given, Unrefused, weighted-none}
 use borrow.Author.Needs.{needs}
 use Rattle.measure.proofs.cie94.Statement.{statement}
 use Rattle.measure.proofs.cie94.Tie as tie
-
-weighted-refusal-requires : tie.Need-weighted-refusal-requires
-weighted-refusal-requires c κs = search needs
 
 returns : tie.Need-returns
 returns c =
@@ -31,25 +28,32 @@ prepared-requires-2 : tie.Need-prepared-requires-2
 prepared-requires-2 c κs = none (c .before .before) .second
 
 cie94-requires : tie.Need-cie94-requires
-cie94-requires c κs = (subst WeightsIn (sym (c .before .before .fixed-weights .ensures)) (weights-in _ (none (c .before .before .before) .weights)), (c .before .prepared .ensures .ready, c .prepared2 .ensures .ready))
-
-double-requires : tie.Need-double-requires
-double-requires c κs = search needs
+cie94-requires c κs =
+    let w = c .before .before in (
+      subst WeightsIn (sym (w .fixed-weights .ensures)) (weights-in _ (none (w .before) .weights)),
+      search (c .before .prepared .ensures, c .prepared2 .ensures),
+    )
 
 returns-2 : tie.Need-returns-2
 returns-2 c =
-    given _ _ (sym (c .before .before .before .before .before .before .weighted-refusal .ensures) ∙ c .before .before .before .before .before .if1 .left)
-    (c .double .ensures ∙ ap doubleOf (c .before .cie94 .ensures .is ∙ (λ i. cie94Of (c .before .before .before .before .before .before .before .args .textile) (c .before .before .before .before .fixed-weights .ensures i) (c .before .before .before .prepared .ensures .is i) (c .before .before .prepared2 .ensures .is i))))
+    let p = c .before .before in
+    let w = p .before .before in
+    let e = w .before in
+    given _ _ (sym (e .before .weighted-refusal .ensures) ∙ e .if1 .left)
+    (c .double .ensures ∙ ap doubleOf
+    (c .before .cie94 .ensures .is ∙
+    (λ i. cie94Of (e .before .before .args .textile) (w .fixed-weights .ensures i) (p .before .prepared .ensures .is i)
+    (p .prepared2 .ensures .is i))))
 
 pub cie94-spec : {M : Type 1} → statement M
 cie94-spec =
     tie.close
     (tie.spec
-    weighted-refusal-requires
+    (λ c κs. search needs)
     returns
     fixed-weights-requires
     prepared-requires
     prepared-requires-2
     cie94-requires
-    double-requires
+    (λ c κs. search needs)
     returns-2)

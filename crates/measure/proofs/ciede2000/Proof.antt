@@ -7,24 +7,17 @@ use borrow.Author.Needs.{needs}
 use Rattle.measure.proofs.ciede2000.Statement.{statement}
 use Rattle.measure.proofs.ciede2000.Tie as tie
 
-weighted-refusal-requires : tie.Need-weighted-refusal-requires
-weighted-refusal-requires c κs = search needs
-
 returns : tie.Need-returns
 returns c =
     let e = c .before .weighted-refusal .ensures in
     with-laws _ _ _ (ap Refused e ∙ refused _ _ (λ z. c .if1 .taken (e ∙ z)))
 
-millionths-requires : tie.Need-millionths-requires
-millionths-requires c κs = search needs
-
-double-requires : tie.Need-double-requires
-double-requires c κs = search needs
-
 returns-2 : tie.Need-returns-2
-returns-2 c = with-laws _ _ _ (given _ _ (sym (c .before .before .before .weighted-refusal .ensures) ∙ c .before .before .if1 .left) (c .double .ensures ∙ ap doubleOf (c .before .millionths .ensures .is)))
+returns-2 c = with-laws _ _ _
+    (given _ _ (sym (c .before .before .before .weighted-refusal .ensures) ∙ c .before .before .if1 .left)
+    (c .double .ensures ∙ ap doubleOf (c .before .millionths .ensures .is)))
 
 pub ciede2000-spec : {M : Type 1} → statement M
 ciede2000-spec =
     tie.close
-    (tie.spec weighted-refusal-requires returns millionths-requires double-requires returns-2)
+    (tie.spec (λ c κs. search needs) returns (λ c κs. search needs) (λ c κs. search needs) returns-2)

@@ -1,6 +1,6 @@
 -- `measure::double` meets its contract. Assumes nothing.
 use mathlib.Core.Path.{refl}
-use native.Mathlib.Nat.{le-trans, le-of-lt}
+use native.Mathlib.Nat.{le-trans}
 use lib.Dec.{le→leb, lit≤}
 use lib.Ieee.{ofBits, ofInt, inFloat}
 use Rattle.measure.specs.Answers.{doubleOf}
@@ -9,7 +9,7 @@ use Rattle.measure.proofs.double.Tie as tie
 
 int-to-float-result : tie.Need-int-to-float-result
 unfolding inFloat
-int-to-float-result c = le→leb _ _ (le-trans (le-of-lt (c .before .pre)) (lit≤ tt))
+int-to-float-result c = le→leb _ _ (le-trans (c .before .pre) (lit≤ tt))
 
 returns : tie.Need-returns
 unfolding ofBits ofInt doubleOf

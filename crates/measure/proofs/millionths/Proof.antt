@@ -1,8 +1,8 @@
 -- `measure::millionths` meets its contract. Assumes nothing.
 use mathlib.Core.Path.{sym, _∙_, subst}
-use Rattle.fixed_point.specs.Samples.{WeightsIn}
+use Rattle.sample.specs.Inner.{WeightsIn}
 use Rattle.fixed_point.proofs.FixedLaws.{weights-in}
-use Rattle.difference.specs.Differences.{ciede2000Of}
+use Rattle.difference.specs.Ciede2000.{ciede2000Of}
 use Rattle.measure.proofs.Refusing.{weighted-none}
 use borrow.Author.Needs.{needs}
 use Rattle.measure.proofs.millionths.Statement.{statement}
@@ -17,22 +17,25 @@ prepared-requires c κs = weighted-none _ _ _ (c .before .pre) .first
 prepared-requires-2 : tie.Need-prepared-requires-2
 prepared-requires-2 c κs = weighted-none _ _ _ (c .before .before .pre) .second
 
-sine-table-requires : tie.Need-sine-table-requires
-sine-table-requires c κs = search needs
-
-gaussian-table-requires : tie.Need-gaussian-table-requires
-gaussian-table-requires c κs = search needs
-
 ciede2000-requires : tie.Need-ciede2000-requires
-ciede2000-requires c κs = (
-  (c .before .before .before .sine-table .ensures, c .before .before .gaussian-table .ensures),
-  (subst WeightsIn (sym (c .before .before .before .before .before .before .fixed-weights .ensures)) (weights-in _ (weighted-none _ _ _ (c .before .before .before .before .before .before .before .pre) .weights)), (c .before .before .before .before .before .prepared .ensures .ready, c .before .before .before .before .prepared2 .ensures .ready)),
-)
+ciede2000-requires c κs =
+    let p = c .before .before .before .before in
+    let w = p .before .before in (
+      (c .before .before .before .sine-table .ensures, c .before .before .gaussian-table .ensures),
+      (
+        subst WeightsIn (sym (w .fixed-weights .ensures)) (weights-in _ (weighted-none _ _ _ (w .before .pre) .weights)),
+        (p .before .prepared .ensures .ready, p .prepared2 .ensures .ready),
+      ),
+    )
 
 returns : tie.Need-returns
 returns c =
+    let p = c .before .before .before .before .before in
+    let w = p .before .before in
     record {
-      is = c .ciede2000 .ensures .is ∙ (λ i. ciede2000Of (c .before .before .before .before .before .before .before .fixed-weights .ensures i) (c .before .before .before .before .before .before .prepared .ensures .is i) (c .before .before .before .before .before .prepared2 .ensures .is i));
+      is =
+          c .ciede2000 .ensures .is
+          ∙ (λ i. ciede2000Of (w .fixed-weights .ensures i) (p .before .prepared .ensures .is i) (p .prepared2 .ensures .is i));
       small = c .ciede2000 .ensures .small;
     }
 
@@ -43,7 +46,7 @@ millionths-spec =
     fixed-weights-requires
     prepared-requires
     prepared-requires-2
-    sine-table-requires
-    gaussian-table-requires
+    (λ c κs. search needs)
+    (λ c κs. search needs)
     ciede2000-requires
     returns)

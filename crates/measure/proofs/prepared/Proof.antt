@@ -5,9 +5,6 @@ use borrow.Author.Needs.{needs}
 use Rattle.measure.proofs.prepared.Statement.{statement}
 use Rattle.measure.proofs.prepared.Tie as tie
 
-fixed-reading-requires : tie.Need-fixed-reading-requires
-fixed-reading-requires c κs = search needs
-
 prepare-requires : tie.Need-prepare-requires
 prepare-requires c κs = lab-in _ _ (c .fixed-reading .ensures) (c .before .pre)
 
@@ -15,4 +12,4 @@ returns : tie.Need-returns
 returns c = record { is = c .prepare .ensures .is ∙ c .before .fixed-reading .ensures; ready = c .prepare .ensures .ready }
 
 pub prepared-spec : {M : Type 1} → statement M
-prepared-spec = tie.close (tie.spec fixed-reading-requires prepare-requires returns)
+prepared-spec = tie.close (tie.spec (λ c κs. search needs) prepare-requires returns)

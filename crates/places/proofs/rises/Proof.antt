@@ -1,56 +1,47 @@
--- `places::rises` meets its contract: the pairs of neighbours before i are in order. Assumes nothing.
-use mathlib.Core.Path.{_≡_}
+-- `places::rises` meets its contract: the places up to i are in order. Assumes nothing.
+use mathlib.Core.Path.{_≡_, sym}
 use mathlib.Core.Bool.{true}
-use Prim.Native.Nat.{_-_, _≤_}
+use Prim.Native.Nat.{_+_, _-_, _≤_}
 use native.Mathlib.Omega.{arith}
-use lib.ListN.{length}
-use Rattle.places.specs.Places.{at, every}
-use Rattle.places.proofs.PlacesLaws.{every-none}
-use Rattle.places.proofs.Steps.{step, rising-more, rising-fails, rising-whole}
+use Rattle.places.specs.Places.{rising}
+use Rattle.places.specs.Inner.{laneAt}
+use Rattle.places.proofs.Order.{read-back}
+use Rattle.places.proofs.PlacesLaws.{rising-one, rising-more, rising-fewer, rising-fails}
+use Rattle.places.proofs.Steps.{step-rises, step-falls}
 use Rattle.places.proofs.rises.Statement.{statement}
 use Rattle.places.proofs.rises.Tie as tie
 
 abbrev Inv-loop : tie.InvT-loop
-Inv-loop column i₀ i = (i ≤ length column - 1) × (every (step (at column)) i ≡ true)
+Inv-loop lane stride n i₀ i = (i ≤ n - 1) × (rising (laneAt lane stride) (i + 1) ≡ true)
 
 abbrev μ-loop : tie.MeasureT-loop
-μ-loop column i₀ i = length column - i
+μ-loop lane stride n i₀ i = n - i
 
 loop-holds : tie.Need-loop-holds Inv-loop μ-loop
-loop-holds c = (omega arith, every-none _)
+loop-holds c = (omega arith, rising-one _)
 
-add-loop : tie.Need-add-loop Inv-loop μ-loop
-add-loop c = omega arith
+entry-requires : tie.Need-entry-requires Inv-loop μ-loop
+entry-requires c κs = c .before .before .pre _ (omega arith)
 
-add-if1 : tie.Need-add-if1 Inv-loop μ-loop
-add-if1 c = omega arith
-
-mul-if1 : tie.Need-mul-if1 Inv-loop μ-loop
-mul-if1 c = omega arith
-
-shared-slice-copy-out-if1 : tie.Need-shared-slice-copy-out-if1 Inv-loop μ-loop
-shared-slice-copy-out-if1 c = omega arith
-
-mul-if1-2 : tie.Need-mul-if1-2 Inv-loop μ-loop
-mul-if1-2 c = omega arith
-
-shared-slice-copy-out-if1-2 : tie.Need-shared-slice-copy-out-if1-2 Inv-loop μ-loop
-shared-slice-copy-out-if1-2 c = omega arith
+entry-requires-2 : tie.Need-entry-requires-2 Inv-loop μ-loop
+entry-requires-2 c κs = c .before .before .before .pre _ (omega arith)
 
 returns : tie.Need-returns Inv-loop μ-loop
-returns c = rising-fails _ _ (c .before .before .before .before .loop .i) (omega arith) (c .before .before .if12 .given) (c .before .if13 .given) (c .if1 .taken)
-
-add-i : tie.Need-add-i Inv-loop μ-loop
-add-i c = omega arith
-
-loop-less : tie.Need-loop-less Inv-loop μ-loop
-loop-less c = omega arith
+returns c =
+    let i = c .before .before .before .before .loop .i in
+    let after = read-back (c .before .before .entry .ok) (c .before .before .entry .ensures) in
+    let here = read-back (c .before .entry2 .ok) (c .before .entry2 .ensures) in
+    sym (rising-fails _ _ i (omega arith) (step-falls after here (c .if1 .taken)))
 
 loop-again : tie.Need-loop-again Inv-loop μ-loop
-loop-again c = (omega arith, rising-more _ _ (c .before .before .before .before .loop .inv .1) (c .before .before .if12 .given) (c .before .if13 .given) (c .if1 .left))
+loop-again c =
+    let s = c .before .before .before .before .loop in
+    let after = read-back (c .before .before .entry .ok) (c .before .before .entry .ensures) in
+    let here = read-back (c .before .entry2 .ok) (c .before .entry2 .ensures) in
+    (omega arith, rising-more _ _ (s .inv .1) (step-rises after here (c .if1 .left)))
 
 returns-2 : tie.Need-returns-2 Inv-loop μ-loop
-returns-2 c = rising-whole _ _ _ (omega arith) (c .before .loop .inv .1)
+returns-2 c = sym (rising-fewer _ _ _ (omega arith) (c .before .loop .inv .1))
 
 pub rises-spec : {M : Type 1} → statement M
 rises-spec =
@@ -59,14 +50,12 @@ rises-spec =
     Inv-loop
     μ-loop
     loop-holds
-    add-loop
-    add-if1
-    mul-if1
-    shared-slice-copy-out-if1
-    mul-if1-2
-    shared-slice-copy-out-if1-2
+    (λ c. omega arith)
+    (λ c. omega arith)
+    entry-requires
+    entry-requires-2
     returns
-    add-i
-    loop-less
+    (λ c. omega arith)
+    (λ c. omega arith)
     loop-again
     returns-2)

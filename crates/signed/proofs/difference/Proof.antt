@@ -4,14 +4,8 @@ use borrow.Author.Needs.{needs}
 use Rattle.signed.proofs.difference.Statement.{statement}
 use Rattle.signed.proofs.difference.Tie as tie
 
-negated-requires : tie.Need-negated-requires
-negated-requires c κs = search needs
-
-sum-requires : tie.Need-sum-requires
-sum-requires c κs = search needs
-
 returns : tie.Need-returns
 returns c = record { is = cc; size = omega arith }
 
 pub difference-spec : {M : Type 1} → statement M
-difference-spec = tie.close (tie.spec negated-requires sum-requires returns)
+difference-spec = tie.close (tie.spec (λ c κs. search needs) (λ c κs. search needs) returns)

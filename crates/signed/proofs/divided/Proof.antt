@@ -4,11 +4,8 @@ use Rattle.signed.proofs.Results.{divided-is}
 use Rattle.signed.proofs.divided.Statement.{statement}
 use Rattle.signed.proofs.divided.Tie as tie
 
-div-t3 : tie.Need-div-t3
-div-t3 c = search needs
-
 returns : tie.Need-returns
 returns c = divided-is _ _
 
 pub divided-spec : {M : Type 1} → statement M
-divided-spec = tie.close (tie.spec div-t3 returns)
+divided-spec = tie.close (tie.spec (λ c. search needs) returns)

@@ -8,11 +8,8 @@ use Rattle.signed.proofs.from_i32.Tie as tie
 cast-from-i64 : tie.Need-cast-from-i64
 cast-from-i64 c = read-fits w64 w32 _ (c .fits .x) (wider (c .fits .x))
 
-from-i64-requires : tie.Need-from-i64-requires
-from-i64-requires c κs = search needs
-
 returns : tie.Need-returns
 returns c = of-read (read-twice w64 w32 _ (c .before .fits .x) (wider (c .before .fits .x))) (c .from-i64 .ensures)
 
 pub from-i32-spec : {M : Type 1} → statement M
-from-i32-spec = tie.close (tie.spec cast-from-i64 from-i64-requires returns)
+from-i32-spec = tie.close (tie.spec cast-from-i64 (λ c κs. search needs) returns)

@@ -1,6 +1,6 @@
 -- `signed::natural` meets its contract. Assumes nothing.
 use mathlib.Core.Path.{refl}
-use Rattle.signed.specs.Value.{int}
+use Rattle.signed.specs.Inner.{int}
 use Rattle.signed.proofs.natural.Statement.{statement}
 use Rattle.signed.proofs.natural.Tie as tie
 

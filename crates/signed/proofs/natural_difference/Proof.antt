@@ -7,11 +7,8 @@ use Rattle.signed.proofs.natural_difference.Tie as tie
 returns : tie.Need-returns
 returns c = search (apart-down)
 
-sub-t5 : tie.Need-sub-t5
-sub-t5 c = search needs
-
 returns-2 : tie.Need-returns-2
 returns-2 c = search (apart-up)
 
 pub natural-difference-spec : {M : Type 1} → statement M
-natural-difference-spec = tie.close (tie.spec returns sub-t5 returns-2)
+natural-difference-spec = tie.close (tie.spec returns (λ c. search needs) returns-2)

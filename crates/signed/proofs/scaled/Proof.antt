@@ -4,11 +4,8 @@ use Rattle.signed.proofs.Results.{scaled-is}
 use Rattle.signed.proofs.scaled.Statement.{statement}
 use Rattle.signed.proofs.scaled.Tie as tie
 
-mul-t3 : tie.Need-mul-t3
-mul-t3 c = search needs
-
 returns : tie.Need-returns
 returns c = scaled-is _ _
 
 pub scaled-spec : {M : Type 1} → statement M
-scaled-spec = tie.close (tie.spec mul-t3 returns)
+scaled-spec = tie.close (tie.spec (λ c. search needs) returns)

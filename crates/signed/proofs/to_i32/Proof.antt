@@ -7,9 +7,6 @@ use Rattle.signed.proofs.Border.{read-fits, read-twice, wider, int-fits
 use Rattle.signed.proofs.to_i32.Statement.{statement}
 use Rattle.signed.proofs.to_i32.Tie as tie
 
-to-i64-requires : tie.Need-to-i64-requires
-to-i64-requires c κs = search needs
-
 fits : (c : tie.After-to-i64) → SFits w32 (c .to-i64 .result)
 fits c = subst (SFits w32) (sym (c .to-i64 .ensures)) (int-fits w32 _ (c .before .pre))
 
@@ -20,4 +17,4 @@ returns : tie.Need-returns
 returns c = read-twice w32 w64 _ (wider (fits c)) (fits c) ∙ c .to-i64 .ensures
 
 pub to-i32-spec : {M : Type 1} → statement M
-to-i32-spec = tie.close (tie.spec to-i64-requires cast-result returns)
+to-i32-spec = tie.close (tie.spec (λ c κs. search needs) cast-result returns)

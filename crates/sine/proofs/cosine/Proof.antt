@@ -5,15 +5,9 @@ use borrow.Author.Needs.{needs}
 use Rattle.sine.proofs.cosine.Statement.{statement}
 use Rattle.sine.proofs.cosine.Tie as tie
 
-add-sine : tie.Need-add-sine
-add-sine c = search needs
-
-sine-requires : tie.Need-sine-requires
-sine-requires c κs = search needs
-
 returns : tie.Need-returns
 unfolding cosineOf
 returns c = c .sine .ensures
 
 pub cosine-spec : {M : Type 1} → statement M
-cosine-spec = tie.close (tie.spec add-sine sine-requires returns)
+cosine-spec = tie.close (tie.spec (λ c. search needs) (λ c κs. search needs) returns)

@@ -6,15 +6,6 @@ use borrow.Author.Needs.{needs}
 use Rattle.sine.proofs.half.Statement.{statement}
 use Rattle.sine.proofs.half.Tie as tie
 
-quarter-requires : tie.Need-quarter-requires
-quarter-requires c κs = search needs
-
-sub-quarter : tie.Need-sub-quarter
-sub-quarter c = search needs
-
-quarter-requires-2 : tie.Need-quarter-requires-2
-quarter-requires-2 c κs = search needs
-
 returns : tie.Need-returns
 unfolding sineHalf
 returns c = rw (le-leb _ _ (c .before .if1 .taken)) (c .quarter .ensures)
@@ -24,4 +15,4 @@ unfolding sineHalf
 returns-2 c = rw (lt-leb _ _ (c .before .if1 .left)) (c .quarter2 .ensures)
 
 pub half-spec : {M : Type 1} → statement M
-half-spec = tie.close (tie.spec quarter-requires sub-quarter quarter-requires-2 returns returns-2)
+half-spec = tie.close (tie.spec (λ c κs. search needs) (λ c. search needs) (λ c κs. search needs) returns returns-2)

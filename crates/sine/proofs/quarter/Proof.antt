@@ -5,21 +5,6 @@ use borrow.Author.Needs.{needs}
 use Rattle.sine.proofs.quarter.Statement.{statement}
 use Rattle.sine.proofs.quarter.Tie as tie
 
-mul-arc : tie.Need-mul-arc
-mul-arc c = search needs
-
-entry-requires : tie.Need-entry-requires
-entry-requires c κs = search needs
-
-sub-entry : tie.Need-sub-entry
-sub-entry c = search needs
-
-entry-requires-2 : tie.Need-entry-requires-2
-entry-requires-2 c κs = search needs
-
-interpolate-requires : tie.Need-interpolate-requires
-interpolate-requires c κs = search needs
-
 returns : tie.Need-returns
 unfolding sineQuarter
 returns c = cc
@@ -27,4 +12,4 @@ returns c = cc
 pub quarter-spec : {M : Type 1} → statement M
 quarter-spec =
     tie.close
-    (tie.spec mul-arc entry-requires sub-entry entry-requires-2 interpolate-requires returns)
+    (tie.spec (λ c. search needs) (λ c κs. search needs) (λ c. search needs) (λ c κs. search needs) (λ c κs. search needs) returns)

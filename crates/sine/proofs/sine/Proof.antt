@@ -5,12 +5,6 @@ use borrow.Author.Needs.{needs}
 use Rattle.sine.proofs.sine.Statement.{statement}
 use Rattle.sine.proofs.sine.Tie as tie
 
-half-requires : tie.Need-half-requires
-half-requires c κs = search needs
-
-half-requires-2 : tie.Need-half-requires-2
-half-requires-2 c κs = search needs
-
 returns : tie.Need-returns
 returns c = sine-first _ (c .before .if1 .taken) (c .half .ensures)
 
@@ -18,4 +12,4 @@ returns-2 : tie.Need-returns-2
 returns-2 c = sine-second _ (c .before .if1 .left) (c .half2 .ensures)
 
 pub sine-spec : {M : Type 1} → statement M
-sine-spec = tie.close (tie.spec half-requires half-requires-2 returns returns-2)
+sine-spec = tie.close (tie.spec (λ c κs. search needs) (λ c κs. search needs) returns returns-2)

@@ -5,15 +5,9 @@ use borrow.Author.Needs.{needs}
 use Rattle.weighting.proofs.chroma_weight.Statement.{statement}
 use Rattle.weighting.proofs.chroma_weight.Tie as tie
 
-mul-result : tie.Need-mul-result
-mul-result c = search needs
-
-add-result : tie.Need-add-result
-add-result c = search needs
-
 returns : tie.Need-returns
 unfolding chromaWeight
 returns c = refl
 
 pub chroma-weight-spec : {M : Type 1} → statement M
-chroma-weight-spec = tie.close (tie.spec mul-result add-result returns)
+chroma-weight-spec = tie.close (tie.spec (λ c. search needs) (λ c. search needs) returns)

@@ -7,22 +7,20 @@ use borrow.Author.Needs.{needs}
 use Rattle.weighting.proofs.cosine_term.Statement.{statement}
 use Rattle.weighting.proofs.cosine_term.Tie as tie
 
-cosine-requires : tie.Need-cosine-requires
-cosine-requires c κs = search needs
-
 scaled-requires : tie.Need-scaled-requires
 scaled-requires c κs = omega (arith, mul-le-mul (c .cosine .ensures .size) (c .before .pre .1 .0))
-
-divided-requires : tie.Need-divided-requires
-divided-requires c κs = search needs
 
 returns : tie.Need-returns
 unfolding termOf
 returns c =
     record {
       is = cc;
-      size = omega (arith, hundredths-le (c .before .before .before .args .k) (c .before .before .cosine .result .n) (c .before .before .cosine .ensures .size));
+      size = omega (
+        arith,
+        hundredths-le (c .before .before .before .args .k) (c .before .before .cosine .result .n)
+            (c .before .before .cosine .ensures .size),
+      );
     }
 
 pub cosine-term-spec : {M : Type 1} → statement M
-cosine-term-spec = tie.close (tie.spec cosine-requires scaled-requires divided-requires returns)
+cosine-term-spec = tie.close (tie.spec (λ c κs. search needs) scaled-requires (λ c κs. search needs) returns)

@@ -16,9 +16,6 @@ product-fits x y h k = omega (arith, mul-le-mul h k)
 weight-fits : (x y : ℕ) → x ≤ 8000000000 → y ≤ 1930000000 → Fits w64 (1000000000 + x * y / 1000000000)
 weight-fits x y h k = omega (arith, mul-le-mul h k)
 
-mul-result : tie.Need-mul-result
-mul-result c = search needs
-
 mul-result-2 : tie.Need-mul-result-2
 mul-result-2 c = product-fits _ _ (omega arith) (omega arith)
 
@@ -30,4 +27,4 @@ unfolding hueWeight
 returns c = refl
 
 pub hue-weight-spec : {M : Type 1} → statement M
-hue-weight-spec = tie.close (tie.spec mul-result mul-result-2 add-result returns)
+hue-weight-spec = tie.close (tie.spec (λ c. search needs) mul-result-2 add-result returns)

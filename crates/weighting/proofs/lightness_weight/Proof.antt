@@ -22,15 +22,6 @@ root-positive {n} e h = omega (arith, root-largest n 1 h)
 weight-fits : (n r : ℕ) → n ≤ 9000000000000000000 → Fits w64 (1000000000 + n / r)
 weight-fits n r h = omega (arith, div-le-self n r)
 
-add-natural-difference : tie.Need-add-natural-difference
-add-natural-difference c = search needs
-
-natural-difference-requires : tie.Need-natural-difference-requires
-natural-difference-requires c κs = search needs
-
-size-requires : tie.Need-size-requires
-size-requires c κs = search needs
-
 mul-square : tie.Need-mul-square
 mul-square c = omega (arith, square c)
 
@@ -43,11 +34,8 @@ add-isqrt c = omega (arith, square c)
 mul-isqrt : tie.Need-mul-isqrt
 mul-isqrt c = omega (arith, square c)
 
-isqrt-requires : tie.Need-isqrt-requires
-isqrt-requires c κs = search needs
-
 div-result : tie.Need-div-result
-div-result c = omega (arith, root-positive (c .isqrt .ensures) (omega arith))
+div-result c = omega (arith, root-positive (c .isqrt .ensures .0) (omega arith))
 
 add-result : tie.Need-add-result
 add-result c = weight-fits _ _ (omega (arith, square (c .before)))
@@ -60,14 +48,14 @@ pub lightness-weight-spec : {M : Type 1} → statement M
 lightness-weight-spec =
     tie.close
     (tie.spec
-    add-natural-difference
-    natural-difference-requires
-    size-requires
+    (λ c. search needs)
+    (λ c κs. search needs)
+    (λ c κs. search needs)
     mul-square
     mul-result
     add-isqrt
     mul-isqrt
-    isqrt-requires
+    (λ c κs. search needs)
     div-result
     add-result
     returns)
