@@ -8,8 +8,12 @@ rust() { # NAME SOURCE WORDS..
 }
 
 build_reference() {
-    mkdir -p "$out"
     rust reference tests/reference/src/lib.rs --crate-type rlib
+}
+
+# A check that reads the sources alone.
+build_alone() { # NAME
+    rust "$1" "tests/checks/$1.rs"
 }
 
 # A check that calls no library of ours.

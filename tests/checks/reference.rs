@@ -1,4 +1,4 @@
-//! Checks the reference against the paper: the proved table, source 001's Table I, both series,
+//! Checks the reference against docs/WORKING.md: the proved table, source 001's Table I, both series,
 //! and an independent CIEDE2000 in double precision.
 
 use reference::calls;
@@ -16,7 +16,7 @@ fn lab(l: i128, a: i128, b: i128) -> Lab {
     Lab { l, a, b }
 }
 
-/// Every row of the paper's "Proved table".
+/// Every row of the proved table.
 fn proved_table(t: &mut Tally) {
     t.same("float 0.03125", limited(0.03125, -256, 256), Some(313));
     t.same("float -0.03125", limited(-0.03125, -256, 256), Some(-313));
@@ -66,7 +66,7 @@ fn proved_table(t: &mut Tally) {
     t.report("the proved table, the text example, the mean hue of pair 7");
 }
 
-/// Refusals 1 to 7 and the limits, from the paper's table.
+/// Refusals 1 to 7 and the limits, from the table of refusals.
 fn refusals(t: &mut Tally) {
     let (nan, infinite, past_100, past_128) = (f32::NAN, f32::INFINITY, 100.0f32.next_up(), 128.0f32.next_up());
     for (reading, wanted) in [

@@ -1,4 +1,4 @@
-//! The calls on readings, with refusals 1 to 5 in the paper's order. An answer is the whole number
+//! The calls on readings, with refusals 1 to 5 in their order. An answer is the whole number
 //! of millionths.
 
 use crate::floats::{is_finite, limited};

@@ -1,5 +1,5 @@
 //! CIEDE2000 in double precision, from the equations of source 001 (2 to 22), and CIE94 from source
-//! 002; from nothing of the paper's working.
+//! 002; from nothing of the whole-number working.
 
 /// Hues this near to half a turn apart are taken as exactly so: arctangents of doubles are off by
 /// about 10^-13 degree, and the nearest hues of grid numbers that are not exactly opposite differ

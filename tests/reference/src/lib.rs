@@ -1,5 +1,5 @@
-//! An exact reference of the paper "Measuring and searching", written from the paper alone, in
-//! 128-bit integers. The checks hold the proved code to it. It is compiled with overflow checks.
+//! An exact reference of docs/WORKING.md in 128-bit integers, which shares nothing with the proved
+//! code. The checks hold that code to it. It is compiled with overflow checks.
 
 pub mod calls;
 pub mod cases;

@@ -1,5 +1,5 @@
 //! "The working": steps 1 to 12 on grid numbers, CIE76 and CIE94. Rust's division of signed
-//! numbers drops the remainder toward zero, as the paper's does.
+//! numbers drops the remainder toward zero, as the working's does.
 
 use crate::tables::{BELL, SINE};
 
