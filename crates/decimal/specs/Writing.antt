@@ -1,12 +1,9 @@
 -- Writing a whole number of 10^-places with so many decimals; zero has no minus.
-use mathlib.Core.Path.{_≡_}
 use mathlib.Core.Bool.{cond}
 use mathlib.Core.List.{List, [], _∷_, _++_}
-use Prim.Native.Nat.{ℕ, zero, suc, _+_, _/_, _%_, _^_, _≤_}
+use Prim.Native.Nat.{ℕ, zero, suc, _+_, _/_, _%_, _^_}
 use lib.Dec.{ltb}
 use lib.IntN.{ℤ, pos, natAbs}
-use lib.ListN.{length}
-use lib.Seq.{sets}
 use lib.Signed.{ltZ}
 
 -- the last k digits of n
@@ -28,9 +25,3 @@ minusOf z = cond (ltZ z (pos 0)) (45 ∷ []) []
 
 unfoldable pub fixedText : ℕ → ℤ → List ℕ
 fixedText places z = minusOf z ++ (digitsOf (natAbs z / 10 ^ places) ++ (46 ∷ lastDigits places (natAbs z)))
-
--- `last` is `out` with the text, of at most n bytes, at the place `at`, and r is the place after it
-pub record Written (out : List ℕ) (at : ℕ) (text : List ℕ) (n : ℕ) (last : List ℕ) (r : ℕ) : Type 0 where
-  pub is : last ≡ sets out at text
-  pub next : r ≡ at + length text
-  pub size : length text ≤ n

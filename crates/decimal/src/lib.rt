@@ -5,8 +5,9 @@ ghost use mathlib.Core.List.{[], _∷_, _++_};
 ghost use Prim.Native.Nat.{_+_, _^_, _≤_, _<_};
 ghost use lib.ListN.{length, drop};
 ghost use Rattle.signed.specs.Inner.{int};
+ghost use Rattle.buffer.specs.Writing.{Written};
 ghost use Rattle.decimal.specs.Reading.{runOf, wholeRun, decimalOf, afterSpace};
-ghost use Rattle.decimal.specs.Writing.{lastDigits, minusOf, fixedText, Written};
+ghost use Rattle.decimal.specs.Writing.{lastDigits, minusOf, fixedText};
 ghost use Rattle.decimal.specs.Inner.{digitCount, StartsAt, DigitAt, DigitsRead, DecimalRead};
 use signed::Int;
 
@@ -134,32 +135,6 @@ pub fn read_decimal(s: &[u8], at: usize) -> Decimal
 
 // What follows writes at a place of a lent buffer, and returns the place after it.
 
-// The byte b.
-pub fn put_byte(out: &mut [u8], at: usize, b: u8) -> usize
-    requires { ⌜ at < length (now out) ⌝ }
-    ensures { λ r. ⌜ Written (now (out .entry)) at (b ∷ []) 1 (now (out .exit)) r ⌝ }
-{
-    out[at] = b;
-    at + 1
-}
-
-// The bytes of a text.
-pub fn put_bytes(out: &mut [u8], at: usize, text: &[u8]) -> usize
-    requires { ⌜ at + length (now text) ≤ length (now out) ⌝ }
-    ensures { λ r.
-        let t = now (text .entry) in
-        ⌜ Written (now (out .entry)) at t (length t) (now (out .exit)) r ⌝ }
-{
-    let mut i = 0;
-    let mut end = at;
-    while i < text.len() {
-        out[end] = text[i];
-        end += 1;
-        i += 1;
-    }
-    end
-}
-
 // The last count digits of n.
 fn put_last_digits(out: &mut [u8], at: usize, count: usize, n: u64) -> usize
     requires { ⌜ at + count ≤ length (now out) ⌝ }
@@ -198,7 +173,7 @@ fn put_minus(out: &mut [u8], at: usize, v: Int) -> usize
         return at;
     }
     if v.neg {
-        return put_byte(out, at, b'-');
+        return buffer::put_byte(out, at, b'-');
     }
     at
 }
@@ -212,7 +187,7 @@ pub fn put_fixed(out: &mut [u8], at: usize, v: Int, places: usize, end: u8) -> u
     let whole = v.n / power_of_ten(places);
     let first = put_minus(out, at, v);
     let point = put_last_digits(out, first, digit_count(whole), whole);
-    let decimals = put_byte(out, point, b'.');
+    let decimals = buffer::put_byte(out, point, b'.');
     let last = put_last_digits(out, decimals, places, v.n);
-    put_byte(out, last, end)
+    buffer::put_byte(out, last, end)
 }

@@ -2,7 +2,7 @@
 -- Assumes nothing.
 use mathlib.Core.Path.{_≡_, refl, sym, ap, subst, _∙_}
 use mathlib.Core.Bool.{Bool, true, false, true≢false}
-use Prim.Native.Nat.{ℕ, zero, suc, _+_, _^_, _≤_, _<_}
+use Prim.Native.Nat.{ℕ, zero, suc, _+_, _-_, _^_, _≤_, _<_}
 use native.Mathlib.Nat.{le-refl, le-suc, lt-trans, lt-of-le-of-lt}
 use native.Mathlib.Omega.{arith}
 use lib.Dec.{T, lit<, leb·suc-zero}
@@ -10,7 +10,7 @@ use lib.IntN.{ℤ, pos, negsuc, negℤ, natAbs, _-ℤ_, +ℤ-comm, +ℤ-idl, -�
 use lib.Signed.{mag, ltZ, nonNeg}
 use mir.Syntax.{Width, w32, w64}
 use mir.Val.{Fits, SFits, hbits, ofZ, toZ}
-use mir.ValLaws.{pow-bits, half-full, toZ-pos, toZ-ofZ}
+use mir.ValLaws.{pow-bits, half-full, toZ-pos, toZ-neg, toZ-fits, toZ-ofZ}
 use Rattle.signed.specs.declared.Int.{Int}
 use Rattle.signed.specs.Value.{withSign}
 use Rattle.signed.specs.Inner.{int, Exactly}
@@ -90,6 +90,35 @@ of-natural (negsuc n) h = absurd (true≢false h)
 -- of what was read back
 pub of-read : {x y : ℤ} {r : Int} → y ≡ x → Exactly y (natAbs y) r → Exactly x (natAbs x) r
 of-read {r = r} e h = subst (λ z. Exactly z (natAbs z) r) e h
+
+-- ---- the 32 bits of a number
+
+pub bits-negative : (x z : ℤ) → ltZ x (pos 0) ≡ true → z ≡ pos (mag x) → 4294967295 - natAbs z ≡ ofZ w32 x
+bits-negative (pos n) z h e = absurd (true≢false (sym h ∙ leb·suc-zero n))
+bits-negative (negsuc n) z h e = omega (arith, ap natAbs e)
+
+pub bits-natural : (x : ℤ) → ltZ x (pos 0) ≡ false → natAbs x ≡ ofZ w32 x
+bits-natural (pos n) h = refl
+bits-natural (negsuc n) h = absurd (true≢false h)
+
+below-zero : (m : ℕ) → negsuc 0 -ℤ pos m ≡ negsuc m
+below-zero zero = +ℤ-comm (negsuc 0) (pos 0) ∙ -ℤ-one (pos 0)
+below-zero (suc m) = +ℤ-comm (negsuc 0) (negsuc m) ∙ -ℤ-one (negsuc m)
+
+-- the upper half of the bits stands for the numbers below 0
+module _ (n : ℕ) (h : 2147483648 ≤ n) (k : n < 2 ^ 32) where
+  pub high-is : negsuc 0 -ℤ toZ w32 (4294967295 - n) ≡ toZ w32 n
+  high-is =
+      let m : ℕ = 4294967295 - n in
+      let small : m < 2 ^ 31 = omega arith in
+      let same : 2 ^ 32 - suc m ≡ n = omega arith in
+      ap (λ x. negsuc 0 -ℤ x) (toZ-pos w32 m small) ∙ below-zero m ∙ sym (toZ-neg w32 m small) ∙ ap (toZ w32) same
+
+  pub high-fits : SFits w32 (negsuc 0 -ℤ toZ w32 (4294967295 - n))
+  high-fits = subst (SFits w32) (sym high-is) (toZ-fits w32 n (record { fits = k }))
+
+  pub high-read : toZ w32 (ofZ w32 (negsuc 0 -ℤ toZ w32 (4294967295 - n))) ≡ toZ w32 n
+  high-read = toZ-ofZ w32 _ high-fits ∙ high-is
 
 -- what a caller reads of a signed result that is a: a itself
 pub read-back : (w : Width) {r : ℤ} (a : Int) → r ≡ int a → a .n < 2 ^ hbits w → toZ w (ofZ w r) ≡ int a

@@ -5,6 +5,8 @@ ghost use Prim.Native.Nat.{_+_, _*_, _/_, _^_, _<_};
 ghost use lib.Dec.{eqb};
 ghost use lib.IntN.{pos, negℤ, natAbs, _+ℤ_, _-ℤ_, _*ℤ_};
 ghost use lib.Signed.{ltZ, quotZ};
+ghost use mir.Syntax.{w32};
+ghost use mir.Val.{ofZ, toZ};
 ghost use Rattle.signed.specs.Inner.{int, Exactly, Within, Apart, Size};
 
 // n, or -n where neg is true. Zero may carry either sign.
@@ -185,4 +187,24 @@ pub fn to_i32(a: Int) -> i32
     ensures { λ r. ⌜ r ≡ int a ⌝ }
 {
     to_i64(a) as i32
+}
+
+// The bits of x, in two's complement.
+pub fn to_bits(x: i32) -> u32
+    ensures { λ r. ⌜ r ≡ ofZ w32 x ⌝ }
+{
+    if x < 0 {
+        return 4294967295 - ((-1 - x) as u32);
+    }
+    x as u32
+}
+
+// The number of some bits, in two's complement.
+pub fn from_bits(n: u32) -> i32
+    ensures { λ r. ⌜ r ≡ toZ w32 n ⌝ }
+{
+    if n < 2147483648 {
+        return n as i32;
+    }
+    -1 - ((4294967295 - n) as i32)
 }

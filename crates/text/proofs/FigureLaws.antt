@@ -2,8 +2,9 @@
 use mathlib.Core.List.{List, [], _∷_, _++_, append-assoc}
 use Prim.Native.Nat.{ℕ, _+_}
 use lib.IntN.{ℤ}
-use Rattle.decimal.specs.Writing.{fixedText, Written}
-use Rattle.decimal.proofs.WritingLaws.{written-append}
+use Rattle.buffer.specs.Writing.{Written}
+use Rattle.decimal.specs.Writing.{fixedText}
+use Rattle.buffer.proofs.WritingLaws.{written-append}
 use Rattle.text.specs.Figures.{figuresText}
 
 -- figures with a space between, from the last to the first

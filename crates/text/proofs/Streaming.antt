@@ -9,8 +9,8 @@ use lib.Dec.{eqb, lit≤}
 use lib.ListN.{length, getD, take, length-append}
 use lib.Seq.{length-sets, take-suc}
 use borrow.Author.Tests.{eq-eqb, ne-eqb}
-use Rattle.decimal.specs.Writing.{Written}
-use Rattle.decimal.proofs.WritingLaws.{written-append, written-is, written-none}
+use Rattle.buffer.specs.Writing.{Written}
+use Rattle.buffer.proofs.WritingLaws.{written-append, written-is, written-none}
 use Rattle.text.specs.Text.{lineMost, Held, part, heldAnswer}
 use Rattle.text.specs.Stream.{answerMost, heldWith, heldAfter, heldText, heldIn}
 use Rattle.text.specs.Inner.{Pushed}

@@ -9,7 +9,7 @@ use native.Mathlib.Omega.{arith}
 use lib.Dec.{ltb, eqb, lit≤}
 use lib.ListN.{length, take, drop}
 use lib.Seq.{sets-eq, take-append-seam, length-take-le}
-use Rattle.decimal.specs.Writing.{Written}
+use Rattle.buffer.specs.Writing.{Written}
 use Rattle.text.specs.Figures.{headerText}
 use Rattle.text.specs.Text.{lineMost, Held, part, tooLong, heldOf, heldAnswer, startWith, linesOf, answersOf, textOf}
 use Rattle.text.specs.Stream.{heldWith, heldAfter, heldText, lastText, stateOf, textSoFar, heldIn, Stepped, Follows}

@@ -5,7 +5,7 @@ use mathlib.Core.List.{List, [], _∷_, _++_}
 use Prim.Native.Nat.{ℕ, _+_, _≤_, _<_}
 use lib.Dec.{ltb, eqb}
 use lib.ListN.{length, take}
-use Rattle.decimal.specs.Writing.{Written}
+use Rattle.buffer.specs.Writing.{Written}
 use Rattle.text.specs.Figures.{headerText}
 use Rattle.text.specs.Text.{lineMost, Held, part, tooLong, heldOf, heldAnswer}
 use Rattle.text.specs.declared.State.{State}

@@ -7,7 +7,7 @@ ghost use lib.ListN.{length, take, drop, replicate};
 ghost use Rattle.sine.specs.Inner.{SineTable};
 ghost use Rattle.gaussian.specs.Inner.{GaussianTable};
 ghost use Rattle.sample.specs.Inner.{labOf, colourOf, SampleIn};
-ghost use Rattle.decimal.specs.Writing.{Written};
+ghost use Rattle.buffer.specs.Writing.{Written};
 ghost use Rattle.text.specs.Line.{readColour, readPair};
 ghost use Rattle.text.specs.Figures.{figuresText, refusedText};
 ghost use Rattle.text.specs.Text.{figuresLine, pairAnswer, answerOf, lineMost, heldAnswer, textOf};
@@ -77,9 +77,9 @@ fn put_refused(out: &mut [u8], at: usize, n: u8) -> usize
     requires { ⌜ n < 10 ⌝ }
     ensures { λ r. ⌜ Written (now (out .entry)) at (refusedText n) 10 (now (out .exit)) r ⌝ }
 {
-    let digit = decimal::put_bytes(out, at, b"refused ");
-    let end = decimal::put_byte(out, digit, 48 + n);
-    decimal::put_byte(out, end, b'\n')
+    let digit = buffer::put_bytes(out, at, b"refused ");
+    let end = buffer::put_byte(out, digit, 48 + n);
+    buffer::put_byte(out, end, b'\n')
 }
 
 // The figures of a line in millionths.

@@ -1,6 +1,7 @@
 -- `decimal::put_minus` meets its contract. Assumes nothing.
 use borrow.Author.Needs.{needs}
-use Rattle.decimal.proofs.WritingLaws.{written-is, written-none, minus-zero, minus-negative, minus-positive}
+use Rattle.buffer.proofs.WritingLaws.{written-is, written-none}
+use Rattle.decimal.proofs.WritingLaws.{minus-zero, minus-negative, minus-positive}
 use Rattle.decimal.proofs.put_minus.Statement.{statement}
 use Rattle.decimal.proofs.put_minus.Tie as tie
 

@@ -3,7 +3,7 @@ use mathlib.Core.Path.{_≡_, sym}
 use lib.Dec.{lit≤}
 use lib.ListN.{length}
 use borrow.Author.Needs.{needs}
-use Rattle.decimal.proofs.WritingLaws.{written-is, written-none}
+use Rattle.buffer.proofs.WritingLaws.{written-is, written-none}
 use Rattle.text.specs.Text.{lineMost}
 use Rattle.text.specs.Stream.{answerMost}
 use Rattle.text.proofs.Whole.{last-empty, last-held, ends}

@@ -4,7 +4,7 @@ use native.Mathlib.Omega.{arith}
 use lib.Seq.{length-take-le}
 use lib.Dec.{lit≤}
 use borrow.Author.Needs.{needs}
-use Rattle.decimal.proofs.WritingLaws.{written-most, written-is}
+use Rattle.buffer.proofs.WritingLaws.{written-most, written-is}
 use Rattle.text.specs.Text.{answerOf, heldAnswer}
 use Rattle.text.specs.Stream.{heldIn}
 use Rattle.text.specs.Inner.{lineFound}

@@ -3,7 +3,7 @@ use mathlib.Core.Path.{_≡_, _∙_}
 use native.Mathlib.Omega.{arith}
 use lib.Dec.{lit≤}
 use borrow.Author.Needs.{needs}
-use Rattle.decimal.proofs.WritingLaws.{written-most, written-is}
+use Rattle.buffer.proofs.WritingLaws.{written-most, written-is}
 use Rattle.sample.specs.Sample.{colourRefusal}
 use Rattle.sample.specs.Refusals.{firstOf}
 use Rattle.sample.specs.Inner.{colourOf}

@@ -1,6 +1,6 @@
 -- `text::put_refused` meets its contract. Assumes nothing.
 use borrow.Author.Needs.{needs}
-use Rattle.decimal.proofs.WritingLaws.{written-append}
+use Rattle.buffer.proofs.WritingLaws.{written-append}
 use Rattle.text.specs.Figures.{refusedText}
 use Rattle.text.proofs.put_refused.Statement.{statement}
 use Rattle.text.proofs.put_refused.Tie as tie

@@ -1,13 +1,13 @@
--- `decimal::put_bytes` meets its contract. Assumes nothing.
+-- `buffer::put_bytes` meets its contract. Assumes nothing.
 use mathlib.Core.Path.{_≡_, refl, _∙_}
 use Prim.Native.Nat.{_+_, _-_, _≤_}
 use native.Mathlib.Omega.{arith}
 use lib.ListN.{length, drop, length-set}
 use lib.Seq.{sets}
-use Rattle.decimal.proofs.WritingLaws.{bytes-turn, bytes-written}
+use Rattle.buffer.proofs.WritingLaws.{bytes-turn, bytes-written}
 use borrow.Author.Needs.{needs}
-use Rattle.decimal.proofs.put_bytes.Statement.{statement}
-use Rattle.decimal.proofs.put_bytes.Tie as tie
+use Rattle.buffer.proofs.put_bytes.Statement.{statement}
+use Rattle.buffer.proofs.put_bytes.Tie as tie
 
 abbrev Inv-loop : tie.InvT-loop
 Inv-loop out₀ at text i₀ end₀ out i end =
