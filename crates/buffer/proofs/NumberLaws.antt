@@ -11,8 +11,8 @@ use borrow.Author.Tests.{eqb-true, eq-eqb, ne-eqb}
 use lib.Dec.{eqb, lit<}
 use lib.IntN.{ℤ}
 use lib.Signed.{mag}
-use lib.ListN.{length, getD, take, drop, length-take, drop-of-length-le}
-use lib.Seq.{drop-cons, getD-take, length-take-le}
+use lib.ListN.{length, getD, take, drop, length-take, length-drop, drop-of-length-le}
+use lib.Seq.{drop-cons, drop-drop, take-add, getD-take, getD-drop, length-take-le}
 use mir.Syntax.{w32}
 use mir.Val.{Fits, hbits, ofZ, toZ}
 use mir.Facts.{toZ-ofZ, ofZ-toZ, fits-ofZ}
@@ -22,6 +22,14 @@ use Rattle.buffer.specs.Numbers.{bytesOf, unsignedOf, signedBytes, signe
 
 pub field-cons : (bs : List ℕ) (at n : ℕ) → at < length bs → field at (suc n) bs ≡ getD bs at 0 ∷ field (at + 1) n bs
 field-cons bs at n h = rw (add-one at) (ap (take (suc n)) (drop-cons bs at 0 h))
+
+-- two fields one after the other
+pub field-join : (bs : List ℕ) (at m n : ℕ) → field at m bs ++ field (at + m) n bs ≡ field at (m + n) bs
+field-join bs at m n =
+    ap (λ t. field at m bs ++ take n t) (sym (drop-drop m at bs)) ∙ sym (take-add m n (drop at bs))
+
+pub field-length : (bs : List ℕ) (at n : ℕ) → at + n ≤ length bs → length (field at n bs) ≡ n
+field-length bs at n h = length-take-le n (drop at bs) (simp length-drop (omega arith))
 
 pub unsigned-two : (bs : List ℕ) (at : ℕ) → at + 2 ≤ length bs
     → unsignedOf (field at 2 bs) ≡ getD bs at 0 + 256 * getD bs (at + 1) 0
@@ -63,6 +71,15 @@ unsigned-bytes (suc n) x h =
 abbrev pub Bytes : List ℕ → Type 0
 Bytes bs = (i : ℕ) → getD bs i 0 < 256
 
+bytes-take : (n : ℕ) (xs : List ℕ) → Bytes xs → Bytes (take n xs)
+bytes-take zero xs h i = lit< tt
+bytes-take (suc n) [] h i = lit< tt
+bytes-take (suc n) (x ∷ xs) h zero = h 0
+bytes-take (suc n) (x ∷ xs) h (suc i) = bytes-take n xs (λ j. h (suc j)) i
+
+pub bytes-field : (bs : List ℕ) (at n : ℕ) → Bytes bs → Bytes (field at n bs)
+bytes-field bs at n h = bytes-take n (drop at bs) (λ i. rw getD-drop (h (at + i)))
+
 pub unsigned-below : (bs : List ℕ) → Bytes bs → unsignedOf bs < 256 ^ length bs
 unfolding unsignedOf
 unsigned-below [] h = lit< tt
@@ -81,6 +98,12 @@ bytes-unsigned (b ∷ bs) h =
     let high : (b + 256 * unsignedOf bs) / 256 ≡ unsignedOf bs = omega arith in
     ap₂ (λ x y. x ∷ bytesOf (length bs) y) low high ∙ ap (λ t. b ∷ t) rest
 
+pub bytes-of-field : (bs : List ℕ) (at n : ℕ) → Bytes bs → at + n ≤ length bs
+    → bytesOf n (unsignedOf (field at n bs)) ≡ field at n bs
+bytes-of-field bs at n h k =
+    ap (λ m. bytesOf m (unsignedOf (field at n bs))) (sym (field-length bs at n k))
+    ∙ bytes-unsigned (field at n bs) (bytes-field bs at n h)
+
 -- ---- signed numbers
 
 pub signed-length : (z : ℤ) → length (signedBytes z) ≡ 4
@@ -92,12 +115,13 @@ unfolding signedBytes signedOf
 signed-back z h =
     ap (toZ w32) (unsigned-bytes 4 (ofZ w32 z) (fits-ofZ {w = w32} {z = z} (sfits-of h) .fits)) ∙ toZ-ofZ (sfits-of h)
 
-pub bytes-back : (bs : List ℕ) → length bs ≡ 4 → Bytes bs → signedBytes (signedOf bs) ≡ bs
+pub bytes-back : (bs : List ℕ) (at : ℕ) → Bytes bs → at + 4 ≤ length bs
+    → signedBytes (signedOf (field at 4 bs)) ≡ field at 4 bs
 unfolding signedBytes signedOf
-bytes-back bs e h =
-    let below : unsignedOf bs < 2 ^ 32 = rw e at (unsigned-below bs h) in
-    ap (bytesOf 4) (ofZ-toZ {w = w32} (record { fits = below }))
-    ∙ ap (λ n. bytesOf n (unsignedOf bs)) (sym e) ∙ bytes-unsigned bs h
+bytes-back bs at h k =
+    let below = unsigned-below (field at 4 bs) (bytes-field bs at 4 h) in
+    let fits : unsignedOf (field at 4 bs) < 2 ^ 32 = rw (field-length bs at 4 k) at below in
+    ap (bytesOf 4) (ofZ-toZ {w = w32} (record { fits = fits })) ∙ bytes-of-field bs at 4 h k
 
 -- ---- two texts
 

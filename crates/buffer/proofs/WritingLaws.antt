@@ -6,7 +6,7 @@ use native.Mathlib.Nat.{add-zero}
 use native.Mathlib.Numerals.{add-one}
 use native.Mathlib.Omega.{arith}
 use lib.ListN.{length, getD, drop, set, length-append, drop-of-length-le}
-use lib.Seq.{sets, sets-eq, drop-cons}
+use lib.Seq.{sets, sets-eq, length-sets, drop-cons}
 use Rattle.buffer.specs.Writing.{Written}
 
 pub sets-append : (xs ys out : List ℕ) (at : ℕ) → sets (sets out at xs) (at + length xs) ys ≡ sets out at (xs ++ ys)
@@ -34,6 +34,9 @@ written-is e w = rw e at w
 -- a longer room serves too
 pub written-most : {out last x : List ℕ} {at m n r : ℕ} → Written out at x m last r → m ≤ n → Written out at x n last r
 written-most h k = record { is = h .is; next = h .next; size = omega (arith, h .size) }
+
+pub written-length : {out last x : List ℕ} {at n r : ℕ} → Written out at x n last r → length last ≡ length out
+written-length {out} {x = x} {at} w = ap length (w .is) ∙ length-sets out at x
 
 -- what stands in front stays in front: the text, then what was there before
 pub written-front : {out last x : List ℕ} {n r : ℕ} → Written out 0 x n last r → length x ≤ length out

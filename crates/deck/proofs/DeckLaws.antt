@@ -4,8 +4,9 @@ use mathlib.Core.Bool.{Bool, true, false, not, _&&_, _||_, cond, true≢false}
 use mathlib.Core.List.{List, _++_}
 use Prim.Native.Nat.{ℕ, zero, suc, _≤_, _<_}
 use native.Mathlib.Omega.{arith}
-use borrow.Author.Tests.{eqb-true, le-leb, lt-leb}
+use borrow.Author.Tests.{eqb-true, eq-eqb, leb-true, le-leb, lt-leb}
 use lib.Dec.{leb, eqb}
+use lib.IntN.{ℤ}
 use lib.ListN.{length, drop}
 use Rattle.places.specs.Places.{rising}
 use Rattle.places.proofs.PlacesLaws.{every-at}
@@ -13,7 +14,7 @@ use Rattle.sample.specs.Sample.{colourRefusal}
 use Rattle.sample.specs.Refusals.{firstOf}
 use Rattle.sample.proofs.RefusalLaws.{none-of, first-last}
 use Rattle.fixed_point.specs.Refusals.{readingRefusal, weightsRefusal, toleranceRefusal}
-use Rattle.deck.specs.Deck.{Deck, Query, swatchesIn, lightnessRises, deckRefusal, searchRefusal}
+use Rattle.deck.specs.Deck.{Deck, Query, mostSwatches, sizesIn, swatchesIn, lightnessRises, deckRefusal, searchRefusal}
 use Rattle.deck.specs.Answers.{foundOf, contentsOf, roomRefusal, numberOf, countOf, neededOf, Refuses}
 use Rattle.deck.specs.declared.Found.{Found}
 use Rattle.deck.specs.declared.Found.the-variants.{Count, Refused, Short}
@@ -23,6 +24,24 @@ use Rattle.deck.specs.declared.Found.the-variants.{Count, Refused, Short
 pub both : (a b : Bool) → (a && b) ≡ true → (a ≡ true) × (b ≡ true)
 both true b e = (refl, e)
 both false b e = absurd (true≢false (sym e))
+
+-- ---- columns whose sizes are in order
+
+pub record Sizes (l a b : List ℤ) : Type 0 where
+  pub a-is : length a ≡ length l
+  pub b-is : length b ≡ length l
+  pub most : length l ≤ mostSwatches
+
+pub sizes-are : (l a b : List ℤ) → sizesIn l a b ≡ true → Sizes l a b
+unfolding sizesIn
+sizes-are l a b e =
+    let x = both _ _ e in
+    let y = both _ _ (x .1) in
+    record { a-is = eqb-true _ _ (x .0); b-is = eqb-true _ _ (y .0); most = leb-true _ _ (y .1) }
+
+pub sizes-in : (l a b : List ℤ) → Sizes l a b → sizesIn l a b ≡ true
+unfolding sizesIn
+sizes-in l a b s = ap₂ _&&_ (eq-eqb _ _ (s .a-is)) (ap₂ _&&_ (eq-eqb _ _ (s .b-is)) (le-leb _ _ (s .most)))
 
 -- ---- a deck that is not refused
 

@@ -5,12 +5,11 @@ use mathlib.Core.List.{List}
 use Prim.Native.Nat.{ℕ}
 use native.Mathlib.Nat.{mul-one}
 use native.Mathlib.Omega.{arith}
-use borrow.Author.Tests.{leb-true, eqb-true}
 use lib.IntN.{ℤ}
 use lib.ListN.{length}
 use Rattle.deck.specs.Deck.{columnsAt, sizesIn, columns}
 use Rattle.deck.specs.Inner.{lanesAt, lanes, columnsLayout, Laid}
-use Rattle.deck.proofs.DeckLaws.{both}
+use Rattle.deck.proofs.DeckLaws.{sizes-are}
 
 module _ (l a b : List ℤ) where
   columns-at : (k : ℕ) → lanesAt 1 l a b k ≡ columnsAt l a b k
@@ -21,15 +20,11 @@ module _ (l a b : List ℤ) where
   columns-lanes = λ i. record { sized = sizesIn l a b; count = length l; colour = λ k. columns-at k i }
 
   pub columns-laid : sizesIn l a b ≡ true → Laid (columnsLayout l a b) l a b
-  unfolding sizesIn
   columns-laid e =
-      let x = both _ _ e in
-      let y = both _ _ (x .1) in
-      let m : length a ≡ length l = eqb-true _ _ (x .0) in
-      let n : length b ≡ length l = eqb-true _ _ (y .0) in
+      let s = sizes-are l a b e in
       record {
-        most = leb-true _ _ (y .1);
+        most = s .most;
         l-spans = λ k h. omega arith;
-        a-spans = λ k h. omega arith;
-        b-spans = λ k h. omega arith;
+        a-spans = λ k h. omega (arith, s .a-is);
+        b-spans = λ k h. omega (arith, s .b-is);
       }

@@ -27,7 +27,7 @@ use sample::FixedColour;
 use sample::FixedWeights;
 
 // The most swatches of a deck.
-const MOST_SWATCHES: usize = 4096;
+pub const MOST_SWATCHES: usize = 4096;
 
 // What a search answers: the number of matches, the refusal's number, or that the list is too short
 // (refusal 8), with the number of entries that it needs.

@@ -12,6 +12,7 @@ use Rattle.deck.specs.Answers.{numberOf}
 use Rattle.deck.specs.Search.{searchAnswer, Searches}
 use Rattle.deck.specs.declared.Found.{Found}
 use Rattle.deck.specs.declared.Found.the-variants.{Count, Refused as FoundRefused, Short}
+use Rattle.deck_file.specs.Transfers.{Columns, writeAnswer, readAnswer, transferNumber, transferSize, Writes, Reads}
 use Rattle.measure.specs.Answers.{refusalOf, differenceOf}
 use Rattle.measure.specs.declared.Difference.{Difference}
 
@@ -41,3 +42,15 @@ pub record HandsSearch (q : Query) (d : Deck) (old new : List ℕ) (number count
   pub refusal : number ≡ numberOf (searchAnswer q d (length old))
   pub handed : count ≡ handedCount (searchAnswer q d (length old))
   pub searched : Searches q d old new (searchAnswer q d (length old))
+
+-- what the write of a deck file hands over: the refusal's number, the length, and the file
+pub record HandsWrite (d : Deck) (old new : List ℕ) (number size : ℕ) : Type 0 where
+  pub refusal : number ≡ transferNumber (writeAnswer d (length old))
+  pub handed : size ≡ transferSize (writeAnswer d (length old))
+  pub written : Writes d old new (writeAnswer d (length old))
+
+-- what the read of a deck file hands over: the refusal's number, the number of swatches, and the columns
+pub record HandsRead (bs : List ℕ) (old new : Columns) (number count : ℕ) : Type 0 where
+  pub refusal : number ≡ transferNumber (readAnswer bs old)
+  pub handed : count ≡ transferSize (readAnswer bs old)
+  pub read : Reads bs old new (readAnswer bs old)

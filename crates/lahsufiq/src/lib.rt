@@ -11,8 +11,11 @@ ghost use Rattle.measure.specs.Answers.{answerOf, refusalOf, differenceOf, yesO
 ghost use Rattle.measure.specs.Calls.{pairRefusal, weightedRefusal, verdictRefusal};
 ghost use Rattle.deck.specs.Deck.{asked, columns};
 ghost use Rattle.deck.specs.Answers.{numberOf};
+ghost use Rattle.deck_file.specs.Transfers.{transferNumber, transferSize, lent};
 ghost use Rattle.lahsufiq.specs.Interface.{reading, weights, oneOf, handedCount, Hands, HandsSearch};
+ghost use Rattle.lahsufiq.specs.Interface.{HandsWrite, HandsRead};
 use deck::Found;
+use deck_file::Transfer;
 use fixed_point::Reading;
 use fixed_point::Weights;
 use measure::Difference;
@@ -312,4 +315,64 @@ pub extern "C" fn lq_search(
     let found = deck::search(l, a, b, r, w, tolerance, places);
     *count = found_count(found);
     found_number(found)
+}
+
+// The refusal's number, 0 for a file or a deck.
+fn transfer_number(t: Transfer) -> u32
+    ensures { λ r. ⌜ r ≡ transferNumber t ⌝ }
+{
+    match t {
+        Transfer::Done(_) => 0,
+        Transfer::Refused(k) => k as u32,
+    }
+}
+
+// The length of a file or the number of swatches, 0 for a refusal.
+fn transfer_size(t: Transfer) -> usize
+    ensures { λ r. ⌜ r ≡ transferSize t ⌝ }
+{
+    match t {
+        Transfer::Done(n) => n,
+        Transfer::Refused(_) => 0,
+    }
+}
+
+// A deck as the bytes of a file, to the front of the list that was lent.
+#[no_mangle]
+pub extern "C" fn lq_deck_write(
+    l: &[i32],
+    a: &[i32],
+    b: &[i32],
+    file: &mut [u8],
+    length: &mut usize,
+) -> u32
+    ensures write { λ r.
+        let deck = columns (now (l .entry)) (now (a .entry)) (now (b .entry)) in
+        ⌜ HandsWrite deck (now (file .entry)) (now (file .exit)) r (now (length .exit)) ⌝ }
+    ensures columns { λ _. ⌜ (now (l .exit) ≡ now (l .entry))
+        × ((now (a .exit) ≡ now (a .entry)) × (now (b .exit) ≡ now (b .entry))) ⌝ }
+{
+    let written = deck_file::write(l, a, b, file);
+    *length = transfer_size(written);
+    transfer_number(written)
+}
+
+// The deck of a file's bytes, to the front of the columns that were lent.
+#[no_mangle]
+pub extern "C" fn lq_deck_read(
+    file: &[u8],
+    l: &mut [i32],
+    a: &mut [i32],
+    b: &mut [i32],
+    count: &mut usize,
+) -> u32
+    ensures read { λ r.
+        let old = lent (now (l .entry)) (now (a .entry)) (now (b .entry)) in
+        let new = lent (now (l .exit)) (now (a .exit)) (now (b .exit)) in
+        ⌜ HandsRead (now (file .entry)) old new r (now (count .exit)) ⌝ }
+    ensures file { λ _. ⌜ now (file .exit) ≡ now (file .entry) ⌝ }
+{
+    let found = deck_file::read(file, l, a, b);
+    *count = transfer_size(found);
+    transfer_number(found)
 }

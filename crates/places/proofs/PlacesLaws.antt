@@ -208,9 +208,12 @@ module _ (f : ℕ → Bool) where
   unfolding every
   every-none = refl
 
-  pub every-more : (n : ℕ) → every f n ≡ true → f n ≡ true → every f (n + 1) ≡ true
+  pub every-next : (n : ℕ) → every f (n + 1) ≡ (every f n && f n)
   unfolding every
-  every-more n h e = ap (every f) (add-one n) ∙ ap₂ _&&_ h e
+  every-next n = ap (every f) (add-one n)
+
+  pub every-more : (n : ℕ) → every f n ≡ true → f n ≡ true → every f (n + 1) ≡ true
+  every-more n h e = every-next n ∙ ap₂ _&&_ h e
 
   pub every-fails : (n k : ℕ) → k < n → f k ≡ false → every f n ≡ false
   every-fails n k l e = fails (every f n) (λ h. true≢false (sym (every-at n k h l) ∙ e))
@@ -241,6 +244,15 @@ module _ (g : ℕ → ℤ) where
       let below : (k : ℕ) → k < i + 1 → leZ (g k) (g (i + 1)) ≡ true = λ k l.
       le-trans-Z (g k) (g i) (g (i + 1)) (rising-at (i + 1) k i r (omega arith) (omega arith)) e in
       every-more over (i + 1) r (every-of (λ k. leZ (g k) (g (i + 1))) (i + 1) below)
+
+  pub rising-neighbours : (n : ℕ) → ((i : ℕ) → i + 1 < n → leZ (g i) (g (i + 1)) ≡ true) → rising g n ≡ true
+  unfolding rising every
+  rising-neighbours zero h = refl
+  rising-neighbours (suc zero) h = refl
+  rising-neighbours (suc (suc n)) h =
+      let before : rising g (n + 1) ≡ true = rw (add-one n) (rising-neighbours (suc n) (λ i l. h i (omega arith))) in
+      let e : n + 1 + 1 ≡ suc (suc n) = omega arith in
+      rw e at (rising-more n before (h n (omega arith)))
 
   pub rising-fewer : (m n : ℕ) → m ≤ n → rising g n ≡ true → rising g m ≡ true
   unfolding rising

@@ -2,7 +2,7 @@
 -- A test goes from places to truth values and a column from places to numbers: how a deck is kept does not matter here.
 use mathlib.Core.Path.{_≡_}
 use mathlib.Core.Bool.{Bool, true, cond, _&&_}
-use mathlib.Core.List.{List, [], _∷_}
+use mathlib.Core.List.{List, [], _∷_, _++_}
 use Prim.Native.Nat.{ℕ, zero, suc, _+_, _<_}
 use lib.IntN.{ℤ, pos}
 use lib.ListN.{length, getD}
@@ -38,6 +38,11 @@ every f (suc n) = every f n && f n
 -- what a column kept as a list holds at a place
 abbrev pub at : List ℤ → ℕ → ℤ
 at xs k = getD xs k (pos 0)
+
+-- the list that holds g at the places below n
+unfoldable pub columnOf : (ℕ → ℤ) → ℕ → List ℤ
+columnOf g zero = []
+columnOf g (suc n) = columnOf g n ++ (g n ∷ [])
 
 -- for all i < j < n, g holds no more at i than at j
 unfoldable pub rising : (ℕ → ℤ) → ℕ → Bool

@@ -1,0 +1,133 @@
+-- What a write and a read answer and leave, from what their steps did. Assumes nothing.
+use mathlib.Core.Path.{_≡_, refl, sym, ap, subst, _∙_}
+use mathlib.Core.List.{List, _++_}
+use Prim.Native.Nat.{ℕ, zero, suc, _≤_}
+use native.Mathlib.Omega.{arith}
+use borrow.Author.Tests.{leb-true}
+use lib.IntN.{ℤ}
+use lib.ListN.{length, take, drop}
+use lib.Seq.{take-at}
+use Rattle.places.specs.Places.{columnOf}
+use Rattle.places.proofs.Columns.{column-length}
+use Rattle.buffer.specs.Writing.{Written}
+use Rattle.buffer.proofs.WritingLaws.{written-front}
+use Rattle.buffer.proofs.NumberLaws.{Bytes}
+use Rattle.deck.specs.Deck.{Deck, mostSwatches, columns}
+use Rattle.deck.proofs.DeckLaws.{deck-valid}
+use Rattle.deck_file.specs.Layout.{fileOf, countIn, colourIn, readOf}
+use Rattle.deck_file.specs.Refusals.{writeRefusal}
+use Rattle.deck_file.specs.Transfers.{transferOf, contentsOf, columnsAfter, Columns, lent, lentRefusal}
+use Rattle.deck_file.specs.Transfers.{IsFile, Writes, Reads}
+use Rattle.deck_file.specs.declared.Transfer.the-variants.{Done, Refused}
+use Rattle.deck_file.specs.Inner.{columnIn}
+use Rattle.deck_file.proofs.RoundTrip.{Kept, file-of-deck, deck-of-file, form-formed, file-parts, columns-read}
+use Rattle.deck_file.proofs.Refusing.{write-accepts, read-accepts}
+
+-- ---- a refusal r, which is k
+
+module _ {r k : ℕ} (e : r ≡ k) (h : r ≡ 0 → ⊥) where
+  refused-answer : (n : ℕ) → Refused r ≡ transferOf k n
+  unfolding transferOf
+  refused-answer n = ap Refused e ∙ by-number k (λ z. h (e ∙ z))
+    where
+      by-number : (j : ℕ) → (j ≡ 0 → ⊥) → Refused j ≡ transferOf j n
+      by-number zero f = absurd (f refl)
+      by-number (suc j) f = refl
+
+  refused-contents : {A : Type 0} (new old : List A) → old ≡ contentsOf k new old
+  unfolding contentsOf
+  refused-contents new old = by-number k (λ z. h (e ∙ z))
+    where
+      by-number : (j : ℕ) → (j ≡ 0 → ⊥) → old ≡ contentsOf j new old
+      by-number zero f = absurd (f refl)
+      by-number (suc j) f = refl
+
+done-answer : {k m n : ℕ} → k ≡ 0 → m ≡ n → Done m ≡ transferOf k n
+unfolding transferOf
+done-answer {n = n} z e = ap Done e ∙ ap (λ j. transferOf j n) (sym z)
+
+done-contents : {A : Type 0} (new old : List A) {k n : ℕ} {last : List A} → k ≡ 0 → length new ≡ n
+    → last ≡ new ++ drop n old → last ≡ contentsOf k new old
+unfolding contentsOf
+done-contents new old z e h =
+    h ∙ ap (λ j. new ++ drop j old) (sym e) ∙ ap (λ j. contentsOf j new old) (sym z)
+
+-- ---- a write
+
+module _ (d : Deck) (old : List ℕ) where
+  pub writes-refused : {r : ℕ} → r ≡ writeRefusal d (length old) → (r ≡ 0 → ⊥) → Writes d old old (Refused r)
+  writes-refused e h =
+      record {
+        answer = refused-answer e h (length (fileOf d));
+        contents = refused-contents e h (fileOf d) old;
+        back = λ z. absurd (h (e ∙ z));
+      }
+
+  pub writes-done : {n r : ℕ} {new : List ℕ} → Kept d → writeRefusal d (length old) ≡ 0
+      → Written old 0 (fileOf d) n new r → Writes d old new (Done r)
+  writes-done {r = r} {new} kept z w =
+      let ok = write-accepts d (length old) z in
+      let e : r ≡ length (fileOf d) = omega (arith, w .next) in
+      let is = written-front w (ok .1) in
+      let written : take r new ≡ fileOf d = ap (take r) is ∙ take-at (fileOf d) _ r (sym e) in
+      record {
+        answer = done-answer z e;
+        contents = done-contents (fileOf d) old z refl is;
+        back = λ _. subst (λ t. IsFile t d) (sym written) (file-of-deck d kept (ok .0));
+      }
+
+-- ---- a read
+
+columns-are : {l a b l′ a′ b′ : List ℤ} → l ≡ l′ → a ≡ a′ → b ≡ b′ → columns l a b ≡ columns l′ a′ b′
+columns-are e f g = λ i. columns (e i) (f i) (g i)
+
+lents-are : {l a b l′ a′ b′ : List ℤ} → l ≡ l′ → a ≡ a′ → b ≡ b′ → lent l a b ≡ lent l′ a′ b′
+lents-are e f g = λ i. lent (e i) (f i) (g i)
+
+module _ (bs : List ℕ) (l a b : List ℤ) where
+  abbrev old : Columns
+  old = lent l a b
+
+  abbrev refusal : ℕ
+  refusal = lentRefusal bs old
+
+  pub reads-refused : {r : ℕ} → r ≡ refusal → (r ≡ 0 → ⊥) → Reads bs old old (Refused r)
+  unfolding columnsAfter
+  reads-refused e h =
+      record {
+        answer = refused-answer e h (countIn bs);
+        contents = lents-are (refused-contents e h _ l) (refused-contents e h _ a) (refused-contents e h _ b);
+        back = λ z. absurd (h (e ∙ z));
+      }
+
+  module _ {n : ℕ} (z : refusal ≡ 0) (e : n ≡ countIn bs) (g : ℕ → ℤ) (xs : List ℤ) {ys : List ℤ}
+      (h : ys ≡ columnOf g n ++ drop n xs) where
+    column-done : ys ≡ contentsOf refusal (columnOf g (countIn bs)) xs
+    column-done =
+        done-contents (columnOf g (countIn bs)) xs z (column-length g (countIn bs))
+        (h ∙ ap (λ m. columnOf g m ++ drop m xs) e)
+
+    column-front : take n ys ≡ columnOf g (countIn bs)
+    column-front = ap (take n) h ∙ take-at (columnOf g n) (drop n xs) n (column-length g n) ∙ ap (columnOf g) e
+
+  pub reads-done : {n : ℕ} {l′ a′ b′ : List ℤ} → Bytes bs → refusal ≡ 0 → n ≡ countIn bs
+      → l′ ≡ columnOf (columnIn bs 7) n ++ drop n l → a′ ≡ columnOf (columnIn bs 11) n ++ drop n a
+      → b′ ≡ columnOf (columnIn bs 15) n ++ drop n b → Reads bs old (lent l′ a′ b′) (Done n)
+  unfolding columnsAfter colourIn
+  reads-done bytes z e el ea eb =
+      let ok = read-accepts bs (length l) (length a) (length b) z in
+      let parts = file-parts bs (ok .file) in
+      let most : countIn bs ≤ mostSwatches = leb-true _ _ (deck-valid (readOf bs) (parts .1) .sized) in
+      let fl = column-front z e (columnIn bs 7) l el in
+      let fa = column-front z e (columnIn bs 11) a ea in
+      let fb = column-front z e (columnIn bs 15) b eb in
+      let deck = columns-are fl fa fb ∙ columns-read bs (form-formed bs (parts .0)) most in
+      record {
+        answer = done-answer z e;
+        contents =
+            lents-are
+            (column-done z e (columnIn bs 7) l el)
+            (column-done z e (columnIn bs 11) a ea)
+            (column-done z e (columnIn bs 15) b eb);
+        back = λ _. subst (IsFile bs) (sym deck) (deck-of-file bs bytes (ok .file));
+      }

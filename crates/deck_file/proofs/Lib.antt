@@ -1,0 +1,6 @@
+-- `RoundTrip` is for callers; the others are for the proofs of this crate's functions.
+pub mod RoundTrip
+pub mod Swatches
+pub mod Refusing
+pub mod Answering
+pub mod Examples
