@@ -18,7 +18,7 @@
 #include <lcms2.h>
 #endif
 
-enum { ROUNDS = 9, PAIRS = 20000, READINGS = 40, MOST_SWATCHES = 4096, LINES = 200000 };
+enum { ROUNDS = 9, PAIRS = 20000, READINGS = 40, MOST_SWATCHES = 4096, LINES = 200000, FILES = 200 };
 
 static const double PI = 3.14159265358979323846;
 
@@ -320,12 +320,86 @@ static void bench_program(const char *program) {
     unlink(file);
     double seconds = median(times);
     printf("The program pairs\n\n| Lines | Seconds | Lines a second | Nanoseconds a line |\n|---|---|---|---|\n");
-    printf("| %d | %.3f | %.0f | %.0f |\n", LINES, seconds, LINES / seconds, 1e9 * seconds / LINES);
+    printf("| %d | %.3f | %.0f | %.0f |\n\n", LINES, seconds, LINES / seconds, 1e9 * seconds / LINES);
+}
+
+/* --- deck files --- */
+
+enum { WRITING, READING, COPYING, JOBS };
+enum { HEAD_BYTES = 7, SWATCH_BYTES = 12, MOST_BYTES = HEAD_BYTES + SWATCH_BYTES * MOST_SWATCHES };
+
+static uint8_t written[MOST_BYTES], copied[MOST_BYTES];
+
+/* Copies are made through this, so that the compiler cannot leave them out. */
+static void *(*volatile copy)(void *, const void *, size_t) = memcpy;
+
+/* Does one job once; the room is always that of the largest deck. Gives 0 where it is not refused. */
+static uint32_t file_job(int job, const Deck *deck, Deck *again) {
+    size_t bytes = HEAD_BYTES + SWATCH_BYTES * deck->size, length;
+    switch (job) {
+    case WRITING:
+        return lq_deck_write(deck->l, deck->size, deck->a, deck->size, deck->b, deck->size, written, MOST_BYTES,
+                             &length);
+    case READING:
+        return lq_deck_read(written, bytes, again->l, MOST_SWATCHES, again->a, MOST_SWATCHES, again->b, MOST_SWATCHES,
+                            &again->size);
+    default:
+        copy(copied, written, bytes);
+        return 0;
+    }
+}
+
+static bool same_deck(const Deck *x, const Deck *y) {
+    size_t bytes = x->size * sizeof x->l[0];
+    return x->size == y->size && !memcmp(x->l, y->l, bytes) && !memcmp(x->a, y->a, bytes) && !memcmp(x->b, y->b, bytes);
+}
+
+/* The medians of the jobs on a deck. */
+static void time_files(const Deck *deck, double medians[JOBS]) {
+    static Deck again;
+    double times[JOBS][ROUNDS];
+    uint32_t refused = 0;
+    /* small decks more often, so that a round is long enough to be timed */
+    int repeats = (int)(FILES * (MOST_SWATCHES / deck->size));
+    for (int round = 0; round < ROUNDS; round++)
+        for (int job = 0; job < JOBS; job++) {
+            double began = processor_seconds();
+            for (int i = 0; i < repeats; i++) refused |= file_job(job, deck, &again);
+            times[job][round] = (processor_seconds() - began) / repeats;
+        }
+    for (int job = 0; job < JOBS; job++) medians[job] = median(times[job]);
+    if (refused || !same_deck(deck, &again))
+        fprintf(stderr, "bench: a deck of %zu swatches is not read as it was written\n", deck->size);
+}
+
+static void bench_files(void) {
+    static const size_t SIZE[] = {16, 256, 4096};
+    static const char *JOB[JOBS] = {"writing", "reading", "memcpy"};
+    static Deck deck;
+    double times[3][JOBS];
+    printf("One deck file, microseconds, beside memcpy of its bytes (ratio: Lahsufiq's time to memcpy's)\n\n");
+    printf("| Swatches | Bytes | writing | reading | memcpy | writing to memcpy | reading to memcpy |\n");
+    printf("|---|---|---|---|---|---|---|\n");
+    for (int s = 0; s < 3; s++) {
+        fill(&deck, SIZE[s]);
+        time_files(&deck, times[s]);
+        printf("| %zu | %zu |", deck.size, HEAD_BYTES + SWATCH_BYTES * deck.size);
+        for (int job = 0; job < JOBS; job++) printf(" %.3f |", times[s][job] * 1e6);
+        for (int job = 0; job < COPYING; job++) printf(" %.1f |", times[s][job] / times[s][COPYING]);
+        printf("\n");
+    }
+    printf("\nHow a deck file's time grows with the deck (both steps are 16 times as many swatches)\n\n");
+    printf("| | 16 to 256 swatches | 256 to 4096 |\n|---|---|---|\n");
+    for (int job = 0; job < JOBS; job++)
+        printf("| %s | %.1f times | %.1f times |\n", JOB[job], times[1][job] / times[0][job],
+               times[2][job] / times[1][job]);
 }
 
 int main(int count, char **arguments) {
     bench_pairs();
     bench_searches();
     if (count > 1) bench_program(arguments[1]);
+    /* last, so that the random data of the others do not change */
+    bench_files();
     return 0;
 }

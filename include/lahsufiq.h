@@ -9,9 +9,14 @@
  *   6  deck columns of unequal length, or more than 4,096 swatches
  *   7  a swatch outside the limits, or lightness falls from one place to the next
  *   8  more matches than the list has room for
- * The first that applies, in the order sample 1, sample 2, weights, tolerance, deck, room. Sample 1 is
- * the standard. Results come through the pointers, which must not be null; on a refusal each is 0, and
- * a list keeps its contents.
+ *  10  a deck file's mark is wrong or incomplete
+ *  11  its version is not 1 or incomplete
+ *  12  its length is not 7 + 12 x count, or the count is incomplete
+ *  13  a list has too little room for the file or for the swatches
+ * The first that applies, in the order sample 1, sample 2, weights, tolerance, file (10, 11, 12), deck
+ * (6, 7), room. Sample 1 is the standard. Results come through the pointers, which must not be null;
+ * on a refusal each is 0, and a list keeps its contents. Lists that are written may not overlap any
+ * other argument.
  */
 #ifndef LAHSUFIQ_H
 #define LAHSUFIQ_H
@@ -54,6 +59,20 @@ uint32_t lq_verdict(float l1, float a1, float b1, float l2, float a2, float b2, 
 uint32_t lq_search(const int32_t *l, size_t l_len, const int32_t *a, size_t a_len, const int32_t *b, size_t b_len,
                    float rl, float ra, float rb, float kl, float kc, float kh, float tolerance,
                    uint16_t *places, size_t room, size_t *count);
+
+/* Writes a deck, three columns as in lq_search, to the front of `file`: the bytes FAN, a 16-bit version
+ * (1), a 16-bit count, then for each swatch L, a and b as signed 32-bit numbers, all low byte first. The
+ * file has 7 + 12 x count bytes, 49,159 at most; bytes of the room past them keep their contents.
+ * `*length` is the length of the file. Refusals 6, 7 and 13. */
+uint32_t lq_deck_write(const int32_t *l, size_t l_len, const int32_t *a, size_t a_len, const int32_t *b, size_t b_len,
+                       uint8_t *file, size_t room, size_t *length);
+
+/* Reads a deck from the `length` bytes of a file, which have to be the whole file, to the front of three
+ * columns, each with room for all swatches; entries past them keep their contents. `*count` is the number
+ * of swatches. The columns then hold a deck that lq_search accepts, and lq_deck_write gives the same bytes
+ * again. Refusals 10, 11, 12, then 6 and 7, then 13. */
+uint32_t lq_deck_read(const uint8_t *file, size_t length, int32_t *l, size_t l_room, int32_t *a, size_t a_room,
+                      int32_t *b, size_t b_room, size_t *count);
 
 #ifdef __cplusplus
 }

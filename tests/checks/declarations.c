@@ -2,8 +2,8 @@
 #include "lahsufiq.h"
 
 /* Each must be declared by the header. */
-void *declared[] = {(void *)lq_cie76,   (void *)lq_cie94,   (void *)lq_ciede2000,
-                    (void *)lq_figures, (void *)lq_verdict, (void *)lq_search};
+void *declared[] = {(void *)lq_cie76,   (void *)lq_cie94,  (void *)lq_ciede2000,  (void *)lq_figures,
+                    (void *)lq_verdict, (void *)lq_search, (void *)lq_deck_write, (void *)lq_deck_read};
 
 #include <stdbool.h>
 #include <stddef.h>
@@ -16,3 +16,6 @@ uint32_t lq_figures(float, float, float, float, float, float, float, float, floa
 uint32_t lq_verdict(float, float, float, float, float, float, float, float, float, float, double *, uint8_t *);
 uint32_t lq_search(const int32_t *, size_t, const int32_t *, size_t, const int32_t *, size_t, float, float, float, float,
                    float, float, float, uint16_t *, size_t, size_t *);
+uint32_t lq_deck_write(const int32_t *, size_t, const int32_t *, size_t, const int32_t *, size_t, uint8_t *, size_t,
+                       size_t *);
+uint32_t lq_deck_read(const uint8_t *, size_t, int32_t *, size_t, int32_t *, size_t, int32_t *, size_t, size_t *);

@@ -27,12 +27,47 @@ mod c {
             l: *const i32, l_len: usize, a: *const i32, a_len: usize, b: *const i32, b_len: usize, rl: f32, ra: f32,
             rb: f32, kl: f32, kc: f32, kh: f32, tolerance: f32, places: *mut u16, room: usize, count: *mut usize,
         ) -> u32;
+        pub fn lq_deck_write(
+            l: *const i32, l_len: usize, a: *const i32, a_len: usize, b: *const i32, b_len: usize, file: *mut u8,
+            room: usize, length: *mut usize,
+        ) -> u32;
+        pub fn lq_deck_read(
+            file: *const u8, length: usize, l: *mut i32, l_room: usize, a: *mut i32, a_room: usize, b: *mut i32,
+            b_room: usize, count: *mut usize,
+        ) -> u32;
     }
 }
 
-/// What stands in a result before a call, and around a list.
+/// What stands in a result before a call.
 const BEFORE: f64 = -7.25;
-const AROUND: u16 = 0xa5c3;
+const NUMBER_BEFORE: usize = 0xdead;
+
+/// How many neighbours a list has on each side: enough to see a whole swatch written beside a file.
+const NEIGHBOURS: usize = 16;
+
+/// A copy of a list that is lent, between its neighbours.
+struct Lent<T> {
+    held: Vec<T>,
+    around: T,
+}
+
+impl<T: Copy + PartialEq> Lent<T> {
+    fn new(list: &[T], around: T) -> Lent<T> {
+        let beside = [around; NEIGHBOURS];
+        Lent { held: [&beside, list, &beside].concat(), around }
+    }
+
+    fn pointer(&mut self) -> *mut T {
+        self.held[NEIGHBOURS..].as_mut_ptr()
+    }
+
+    fn give_back(self, call: &str, list: &mut [T]) {
+        let (before, rest) = self.held.split_at(NEIGHBOURS);
+        let (held, after) = rest.split_at(list.len());
+        assert!(before.iter().chain(after).all(|&x| x == self.around), "{call} wrote beside its list");
+        list.copy_from_slice(held);
+    }
+}
 
 /// A refusal number and the bits of the double.
 pub type Answer = (u32, u64);
@@ -76,10 +111,8 @@ pub fn search(
     tolerance: f32,
     list: &mut [u16],
 ) -> (u32, usize) {
-    let mut count = 0xdead;
-    let mut held = vec![AROUND; list.len() + 2];
-    let last = list.len() + 1;
-    held[1..last].copy_from_slice(list);
+    let mut count = NUMBER_BEFORE;
+    let mut lent = Lent::new(list, 0xa5c3);
     let [l, a, b] = deck;
     let refusal = unsafe {
         c::lq_search(
@@ -96,12 +129,36 @@ pub fn search(
             kc,
             kh,
             tolerance,
-            held[1..].as_mut_ptr(),
+            lent.pointer(),
             list.len(),
             &mut count,
         )
     };
-    assert!(held[0] == AROUND && held[last] == AROUND, "lq_search wrote beside its list");
-    list.copy_from_slice(&held[1..last]);
+    lent.give_back("lq_search", list);
+    (refusal, count)
+}
+
+/// The refusal number and the length; `file` is lent.
+pub fn deck_write([l, a, b]: Columns, file: &mut [u8]) -> (u32, usize) {
+    let mut length = NUMBER_BEFORE;
+    let mut lent = Lent::new(file, 0xc3);
+    let (to, room) = (lent.pointer(), file.len());
+    let refusal = unsafe {
+        c::lq_deck_write(l.as_ptr(), l.len(), a.as_ptr(), a.len(), b.as_ptr(), b.len(), to, room, &mut length)
+    };
+    lent.give_back("lq_deck_write", file);
+    (refusal, length)
+}
+
+/// The refusal number and the count; the columns are lent.
+pub fn deck_read(file: &[u8], columns: &mut [Vec<i32>; 3]) -> (u32, usize) {
+    let mut count = NUMBER_BEFORE;
+    let [l_room, a_room, b_room] = columns.each_ref().map(Vec::len);
+    let mut lent = columns.each_ref().map(|column| Lent::new(column, -0x5a3c_5a3c));
+    let [l, a, b] = lent.each_mut().map(Lent::pointer);
+    let refusal = unsafe { c::lq_deck_read(file.as_ptr(), file.len(), l, l_room, a, a_room, b, b_room, &mut count) };
+    for (lent, column) in lent.into_iter().zip(columns) {
+        lent.give_back("lq_deck_read", column);
+    }
     (refusal, count)
 }

@@ -14,7 +14,7 @@ pub fn swatch(deck: Columns, place: usize) -> Lab {
 }
 
 /// Refusals 6 and 7.
-fn refused(deck: Columns) -> Option<u32> {
+pub fn refused(deck: Columns) -> Option<u32> {
     let [l, a, b] = deck;
     if l.len() != a.len() || l.len() != b.len() || l.len() > LARGEST {
         return Some(6);

@@ -4,6 +4,7 @@
 pub mod calls;
 pub mod cases;
 pub mod deck;
+pub mod deck_file;
 pub mod double;
 pub mod floats;
 pub mod random;
