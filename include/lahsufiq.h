@@ -14,9 +14,9 @@
  *  12  its length is not 7 + 12 x count, or the count is incomplete
  *  13  a list has too little room for the file or for the swatches
  * The first that applies, in the order sample 1, sample 2, weights, tolerance, file (10, 11, 12), deck
- * (6, 7), room. Sample 1 is the standard. Results come through the pointers, which must not be null;
- * on a refusal each is 0, and a list keeps its contents. Lists that are written may not overlap any
- * other argument.
+ * (6, 7), room. Sample 1 is the standard. Results come through the pointers; on a refusal each is 0, and
+ * a list keeps its contents. No pointer may be null, not even that of a list of length 0, and what is
+ * written may not overlap any other argument.
  */
 #ifndef LAHSUFIQ_H
 #define LAHSUFIQ_H
@@ -55,7 +55,7 @@ uint32_t lq_verdict(float l1, float a1, float b1, float l2, float a2, float b2, 
  * keep their contents. The deck is three columns in whole numbers of 1/10,000, sorted by lightness:
  * L from 0 to 1,000,000, a and b from -1,280,000 to 1,280,000. Swatches are sample 1, the reading is
  * sample 2. `*count` is the number of matches; with refusal 8 the number of entries needed; else 0.
- * Refusals 1 to 8, the reading's first. A list or column of length 0 may not be null. */
+ * Refusals 1 to 8, the reading's first. */
 uint32_t lq_search(const int32_t *l, size_t l_len, const int32_t *a, size_t a_len, const int32_t *b, size_t b_len,
                    float rl, float ra, float rb, float kl, float kc, float kh, float tolerance,
                    uint16_t *places, size_t room, size_t *count);

@@ -6,7 +6,7 @@ use native.Mathlib.Omega.{arith}
 use borrow.Author.Tests.{leb-true}
 use lib.IntN.{ℤ}
 use lib.ListN.{length, take, drop}
-use lib.Seq.{take-at}
+use lib.Seq.{take-at, drop-at}
 use Rattle.places.specs.Places.{columnOf}
 use Rattle.places.proofs.Columns.{column-length}
 use Rattle.buffer.specs.Writing.{Written}
@@ -16,8 +16,9 @@ use Rattle.deck.specs.Deck.{Deck, mostSwatches, columns}
 use Rattle.deck.proofs.DeckLaws.{deck-valid}
 use Rattle.deck_file.specs.Layout.{fileOf, countIn, colourIn, readOf}
 use Rattle.deck_file.specs.Refusals.{writeRefusal}
-use Rattle.deck_file.specs.Transfers.{transferOf, contentsOf, columnsAfter, Columns, lent, lentRefusal}
-use Rattle.deck_file.specs.Transfers.{IsFile, Writes, Reads}
+use Rattle.deck_file.specs.Transfers.{transferOf, transferNumber, transferSize, writeAnswer, readAnswer, contentsOf}
+use Rattle.deck_file.specs.Transfers.{columnsAfter, Columns, lent, lentRefusal, front, IsFile, Writes, Reads}
+use Rattle.deck_file.specs.declared.Transfer.{Transfer}
 use Rattle.deck_file.specs.declared.Transfer.the-variants.{Done, Refused}
 use Rattle.deck_file.specs.Inner.{columnIn}
 use Rattle.deck_file.proofs.RoundTrip.{Kept, file-of-deck, deck-of-file, form-formed, file-parts, columns-read}
@@ -52,16 +53,37 @@ unfolding contentsOf
 done-contents new old z e h =
     h ∙ ap (λ j. new ++ drop j old) (sym e) ∙ ap (λ j. contentsOf j new old) (sym z)
 
+-- ---- what each answer and its contents say
+
+number-is : (k n : ℕ) → transferNumber (transferOf k n) ≡ k
+unfolding transferOf
+number-is zero n = refl
+number-is (suc k) n = refl
+
+contents-kept : {A : Type 0} (k n : ℕ) (new old : List A) → length new ≡ n
+    → drop (transferSize (transferOf k n)) (contentsOf k new old) ≡ drop (transferSize (transferOf k n)) old
+unfolding transferOf contentsOf
+contents-kept zero n new old e = drop-at new (drop (length new) old) n e ∙ ap (λ m. drop m old) e
+contents-kept (suc k) n new old e = refl
+
 -- ---- a write
 
 module _ (d : Deck) (old : List ℕ) where
+  writes : {r : Transfer} {new : List ℕ} → r ≡ writeAnswer d (length old)
+      → new ≡ contentsOf (writeRefusal d (length old)) (fileOf d) old
+      → (writeRefusal d (length old) ≡ 0 → IsFile (take (transferSize r) new) d) → Writes d old new r
+  writes answer contents back =
+      record {
+        answer = answer;
+        contents = contents;
+        number = ap transferNumber answer ∙ number-is _ (length (fileOf d));
+        kept = rw (answer, contents) (contents-kept _ (length (fileOf d)) (fileOf d) old refl);
+        back = back;
+      }
+
   pub writes-refused : {r : ℕ} → r ≡ writeRefusal d (length old) → (r ≡ 0 → ⊥) → Writes d old old (Refused r)
   writes-refused e h =
-      record {
-        answer = refused-answer e h (length (fileOf d));
-        contents = refused-contents e h (fileOf d) old;
-        back = λ z. absurd (h (e ∙ z));
-      }
+      writes (refused-answer e h (length (fileOf d))) (refused-contents e h (fileOf d) old) (λ z. absurd (h (e ∙ z)))
 
   pub writes-done : {n r : ℕ} {new : List ℕ} → Kept d → writeRefusal d (length old) ≡ 0
       → Written old 0 (fileOf d) n new r → Writes d old new (Done r)
@@ -70,11 +92,8 @@ module _ (d : Deck) (old : List ℕ) where
       let e : r ≡ length (fileOf d) = omega (arith, w .next) in
       let is = written-front w (ok .1) in
       let written : take r new ≡ fileOf d = ap (take r) is ∙ take-at (fileOf d) _ r (sym e) in
-      record {
-        answer = done-answer z e;
-        contents = done-contents (fileOf d) old z refl is;
-        back = λ _. subst (λ t. IsFile t d) (sym written) (file-of-deck d kept (ok .0));
-      }
+      writes (done-answer z e) (done-contents (fileOf d) old z refl is)
+      (λ _. subst (λ t. IsFile t d) (sym written) (file-of-deck d kept (ok .0)))
 
 -- ---- a read
 
@@ -91,14 +110,28 @@ module _ (bs : List ℕ) (l a b : List ℤ) where
   abbrev refusal : ℕ
   refusal = lentRefusal bs old
 
+  reads : {r : Transfer} {new : Columns} → r ≡ readAnswer bs old → new ≡ columnsAfter refusal (readOf bs) old
+      → (refusal ≡ 0 → IsFile bs (front (transferSize r) new)) → Reads bs old new r
+  unfolding columnsAfter
+  reads answer contents back =
+      let kept : (g : ℕ → ℤ) (xs : List ℤ)
+      → let size = transferSize (readAnswer bs old) in
+      drop size (contentsOf refusal (columnOf g (countIn bs)) xs) ≡ drop size xs
+      = λ g xs. contents-kept refusal (countIn bs) (columnOf g (countIn bs)) xs (column-length g (countIn bs)) in
+      record {
+        answer = answer;
+        contents = contents;
+        number = ap transferNumber answer ∙ number-is refusal (countIn bs);
+        kept = rw (answer, contents) (lents-are (kept _ l) (kept _ a) (kept _ b));
+        back = back;
+      }
+
   pub reads-refused : {r : ℕ} → r ≡ refusal → (r ≡ 0 → ⊥) → Reads bs old old (Refused r)
   unfolding columnsAfter
   reads-refused e h =
-      record {
-        answer = refused-answer e h (countIn bs);
-        contents = lents-are (refused-contents e h _ l) (refused-contents e h _ a) (refused-contents e h _ b);
-        back = λ z. absurd (h (e ∙ z));
-      }
+      reads (refused-answer e h (countIn bs))
+      (lents-are (refused-contents e h _ l) (refused-contents e h _ a) (refused-contents e h _ b))
+      (λ z. absurd (h (e ∙ z)))
 
   module _ {n : ℕ} (z : refusal ≡ 0) (e : n ≡ countIn bs) (g : ℕ → ℤ) (xs : List ℤ) {ys : List ℤ}
       (h : ys ≡ columnOf g n ++ drop n xs) where
@@ -122,12 +155,9 @@ module _ (bs : List ℕ) (l a b : List ℤ) where
       let fa = column-front z e (columnIn bs 11) a ea in
       let fb = column-front z e (columnIn bs 15) b eb in
       let deck = columns-are fl fa fb ∙ columns-read bs (form-formed bs (parts .0)) most in
-      record {
-        answer = done-answer z e;
-        contents =
-            lents-are
-            (column-done z e (columnIn bs 7) l el)
-            (column-done z e (columnIn bs 11) a ea)
-            (column-done z e (columnIn bs 15) b eb);
-        back = λ _. subst (IsFile bs) (sym deck) (deck-of-file bs bytes (ok .file));
-      }
+      reads (done-answer z e)
+      (lents-are
+      (column-done z e (columnIn bs 7) l el)
+      (column-done z e (columnIn bs 11) a ea)
+      (column-done z e (columnIn bs 15) b eb))
+      (λ _. subst (IsFile bs) (sym deck) (deck-of-file bs bytes (ok .file)))

@@ -26,8 +26,9 @@ use Rattle.deck.specs.Deck.{Deck, mostSwatches, columnsAt, columns, deckRefusal
 use Rattle.deck.proofs.DeckLaws.{Sizes, sizes-are, sizes-in, deck-valid}
 use Rattle.deck_file.specs.Layout.{mark, version, swatchBytes, swatchesBytes, headerBytes, fileOf}
 use Rattle.deck_file.specs.Layout.{versionIn, countIn, colourIn, readOf}
-use Rattle.deck_file.specs.Refusals.{markRefusal, versionRefusal, lengthRefusal, fileRefusal}
-use Rattle.deck_file.specs.Transfers.{IsFile}
+use Rattle.deck_file.specs.Refusals.{markRefusal, versionRefusal, lengthRefusal, fileRefusal, writeRefusal}
+use Rattle.deck_file.specs.Transfers.{IsFile, Writes, Reads, Columns, front, transferSize, lentRefusal}
+use Rattle.deck_file.specs.declared.Transfer.{Transfer}
 use Rattle.deck_file.specs.Inner.{formRefusal}
 use Rattle.deck_file.proofs.Swatches.{colours-are, swatches-length, swatch-from}
 
@@ -264,3 +265,17 @@ module _ (bs : List ℕ) (formed : Formed bs) (most : countIn bs ≤ mostSwatche
       } in
       let sized = sizes-in _ _ _ sizes ∙ sym (le-leb (countIn bs) mostSwatches most) in
       λ i. record { sized = sized i; count = count i; colour = λ k. swatch-kept k i }
+
+-- ---- from the promises alone, for callers
+
+-- a deck that is written and read back is the same deck
+pub write-read : {d : Deck} {old new : List ℕ} {r s : Transfer} {c c′ : Columns} → let bs = take (transferSize r) new in
+    Writes d old new r → writeRefusal d (length old) ≡ 0 → Reads bs c c′ s → lentRefusal bs c ≡ 0
+    → front (transferSize s) c′ ≡ d
+write-read w ok x ok′ = sym (x .back ok′ .read) ∙ w .back ok .read
+
+-- bytes that are read and written back are the same bytes
+pub read-write : {bs old new : List ℕ} {c c′ : Columns} {r s : Transfer} → let d = front (transferSize r) c′ in
+    Reads bs c c′ r → lentRefusal bs c ≡ 0 → Writes d old new s → writeRefusal d (length old) ≡ 0
+    → take (transferSize s) new ≡ bs
+read-write x ok w ok′ = sym (w .back ok′ .written) ∙ x .back ok .written

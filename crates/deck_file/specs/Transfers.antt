@@ -64,9 +64,12 @@ columnsAfter refusal d old =
       b = contentsOf refusal (columnOf (λ k. d .colour k .b) (d .count)) (old .b);
     }
 
--- the deck that the first n entries of three columns make
+-- the deck that the first n entries of three columns make, and the entries past them
 abbrev pub front : ℕ → Columns → Deck
 front n c = columns (take n (c .l)) (take n (c .a)) (take n (c .b))
+
+abbrev pub rest : ℕ → Columns → Columns
+rest n c = lent (drop n (c .l)) (drop n (c .a)) (drop n (c .b))
 
 -- ---- the promises
 
@@ -79,14 +82,24 @@ pub record IsFile (bs : List ℕ) (d : Deck) : Type 0 where
 
 -- of a deck, and the caller's list before and after
 pub record Writes (d : Deck) (old new : List ℕ) (r : Transfer) : Type 0 where
+  -- for every call, the answer and the list
   pub answer : r ≡ writeAnswer d (length old)
   pub contents : new ≡ contentsOf (writeRefusal d (length old)) (fileOf d) old
+  -- the refusal's number, the first that applies of 6, 7 and 13
+  pub number : transferNumber r ≡ writeRefusal d (length old)
+  -- from the length that is answered on, which on a refusal is 0, the list is as it was
+  pub kept : drop (transferSize r) new ≡ drop (transferSize r) old
   -- reading what was written gives the deck
   pub back : writeRefusal d (length old) ≡ 0 → IsFile (take (transferSize r) new) d
 
 -- of some bytes, and the caller's columns before and after
 pub record Reads (bs : List ℕ) (old new : Columns) (r : Transfer) : Type 0 where
+  -- for every call, the answer and the columns
   pub answer : r ≡ readAnswer bs old
   pub contents : new ≡ columnsAfter (lentRefusal bs old) (readOf bs) old
+  -- the refusal's number, the first that applies of 10, 11, 12, 6, 7 and 13
+  pub number : transferNumber r ≡ lentRefusal bs old
+  -- from the count that is answered on, which on a refusal is 0, the columns are as they were
+  pub kept : rest (transferSize r) new ≡ rest (transferSize r) old
   -- writing what was read gives the bytes
   pub back : lentRefusal bs old ≡ 0 → IsFile bs (front (transferSize r) new)

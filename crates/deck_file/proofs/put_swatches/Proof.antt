@@ -1,6 +1,6 @@
 -- `deck_file::put_swatches` meets its contract: the swatches before k are written. Assumes nothing.
 use mathlib.Core.Path.{_≡_, refl, _∙_}
-use Prim.Native.Nat.{_-_, _*_, _≤_}
+use Prim.Native.Nat.{_+_, _-_, _*_, _≤_}
 use native.Mathlib.Omega.{arith}
 use lib.ListN.{length}
 use Rattle.places.proofs.Order.{read-back}
@@ -34,12 +34,14 @@ loop-again c =
     let p = c .before .before in
     let q = p .before .before .before in
     let l = q .before .before .before .loop in
+    let fits : 12 * l .k + 12 ≤ 12 * (l .k + 1) = omega arith in
+    let more : l .k + 1 ≤ length (q .before .before .before .before .before .args .l .now) = omega arith in
     let here = colours-are (read-back (q .put-swatch-arg2 .given) refl)
     (read-back (p .before .before .put-swatch-arg3 .given) refl) (read-back (p .before .put-swatch-arg4 .given) refl) in
     let w = written-append (l .inv .2) (p .put-swatch .ensures) in (
-      omega arith,
+      more,
       written-length (p .put-swatch .ensures) ∙ l .inv .1,
-      written-most (written-is (swatches-more _ (l .k) here) w) (omega arith),
+      written-most (written-is (swatches-more _ (l .k) here) w) fits,
     )
 
 returns : tie.Need-returns Inv-loop μ-loop

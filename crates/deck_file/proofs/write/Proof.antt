@@ -8,16 +8,21 @@ use Rattle.buffer.proofs.WritingLaws.{written-append, written-length}
 use Rattle.deck.specs.Deck.{columns, deckRefusal}
 use Rattle.deck.proofs.DeckLaws.{Sizes}
 use Rattle.deck_file.specs.Layout.{fileOf}
+use Rattle.deck_file.specs.Refusals.{writeRefusal}
 use Rattle.deck_file.proofs.RoundTrip.{columns-sizes, columns-kept, file-length}
 use Rattle.deck_file.proofs.Refusing.{write-accepts}
 use Rattle.deck_file.proofs.Answering.{writes-refused, writes-done}
 use Rattle.deck_file.proofs.write.Statement.{statement}
 use Rattle.deck_file.proofs.write.Tie as tie
 
+not-refused : (c : tie.Else1) → let x = c .before .before .before .args in
+    writeRefusal (columns (x .l .now) (x .a .now) (x .b .now)) (length (x .file .now)) ≡ 0
+not-refused c = sym (c .before .write-refusal .ensures) ∙ c .if1 .left
+
 accepted : (c : tie.Else1) → let x = c .before .before .before .args in
     let d = columns (x .l .now) (x .a .now) (x .b .now) in
     (deckRefusal d ≡ 0) × (length (fileOf d) ≤ length (x .file .now))
-accepted c = write-accepts _ _ (sym (c .before .write-refusal .ensures) ∙ c .if1 .left)
+accepted c = write-accepts _ _ (not-refused c)
 
 sizes : (c : tie.Else1) → let x = c .before .before .before .args in Sizes (x .l .now) (x .a .now) (x .b .now)
 sizes c = columns-sizes _ _ _ (accepted c .0)
@@ -49,9 +54,8 @@ returns-2 c =
     let s = c .before .before in
     let h = s .before .before .before .before in
     let e = h .before .before in
-    let z = sym (e .before .write-refusal .ensures) ∙ e .if1 .left in
     let w = written-append (h .put-header .ensures) (s .put-swatches .ensures) in
-    (writes-done _ _ (columns-kept _ _ _ (sizes e)) z w, (refl, (refl, refl)))
+    (writes-done _ _ (columns-kept _ _ _ (sizes e)) (not-refused e) w, (refl, (refl, refl)))
 
 pub write-spec : {M : Type 1} → statement M
 write-spec =
