@@ -10,11 +10,11 @@ use lib.Seq.{take-at, drop-at}
 use Rattle.places.specs.Places.{columnOf}
 use Rattle.places.proofs.Columns.{column-length}
 use Rattle.buffer.specs.Writing.{Written}
-use Rattle.buffer.proofs.WritingLaws.{written-front}
+use Rattle.buffer.proofs.WritingLaws.{written-append, written-front}
 use Rattle.buffer.proofs.NumberLaws.{Bytes}
 use Rattle.deck.specs.Deck.{Deck, mostSwatches, columns}
 use Rattle.deck.proofs.DeckLaws.{deck-valid}
-use Rattle.deck_file.specs.Layout.{fileOf, countIn, colourIn, readOf}
+use Rattle.deck_file.specs.Layout.{headerBytes, swatchesBytes, fileOf, countIn, colourIn, readOf}
 use Rattle.deck_file.specs.Refusals.{writeRefusal}
 use Rattle.deck_file.specs.Transfers.{transferOf, transferNumber, transferSize, writeAnswer, readAnswer, contentsOf}
 use Rattle.deck_file.specs.Transfers.{columnsAfter, Columns, lent, lentRefusal, front, IsFile, Writes, Reads}
@@ -26,22 +26,20 @@ use Rattle.deck_file.proofs.Refusing.{write-accepts, read-accepts}
 
 -- ---- a refusal r, which is k
 
+by-refusal : (P : ℕ → Type 0) (k : ℕ) → (k ≡ 0 → ⊥) → ((j : ℕ) → P (suc j)) → P k
+by-refusal P zero h f = absurd (h refl)
+by-refusal P (suc k) h f = f k
+
 module _ {r k : ℕ} (e : r ≡ k) (h : r ≡ 0 → ⊥) where
   refused-answer : (n : ℕ) → Refused r ≡ transferOf k n
   unfolding transferOf
-  refused-answer n = ap Refused e ∙ by-number k (λ z. h (e ∙ z))
-    where
-      by-number : (j : ℕ) → (j ≡ 0 → ⊥) → Refused j ≡ transferOf j n
-      by-number zero f = absurd (f refl)
-      by-number (suc j) f = refl
+  refused-answer n = ap Refused e ∙ by-refusal (λ j. Refused j ≡ transferOf j n) k (λ z. h (e ∙ z)) (λ j. refl)
 
   refused-contents : {A : Type 0} (new old : List A) → old ≡ contentsOf k new old
   unfolding contentsOf
-  refused-contents new old = by-number k (λ z. h (e ∙ z))
-    where
-      by-number : (j : ℕ) → (j ≡ 0 → ⊥) → old ≡ contentsOf j new old
-      by-number zero f = absurd (f refl)
-      by-number (suc j) f = refl
+  refused-contents new old = by-refusal (λ j. old ≡ contentsOf j new old) k (λ z. h (e ∙ z)) (λ j. refl)
+
+-- ---- no refusal
 
 done-answer : {k m n : ℕ} → k ≡ 0 → m ≡ n → Done m ≡ transferOf k n
 unfolding transferOf
@@ -85,10 +83,14 @@ module _ (d : Deck) (old : List ℕ) where
   writes-refused e h =
       writes (refused-answer e h (length (fileOf d))) (refused-contents e h (fileOf d) old) (λ z. absurd (h (e ∙ z)))
 
-  pub writes-done : {n r : ℕ} {new : List ℕ} → Kept d → writeRefusal d (length old) ≡ 0
-      → Written old 0 (fileOf d) n new r → Writes d old new (Done r)
-  writes-done {r = r} {new} kept z w =
+  -- the header, then the swatches
+  pub writes-done : {m n at r : ℕ} {mid new : List ℕ} → Kept d → writeRefusal d (length old) ≡ 0
+      → Written old 0 (headerBytes (d .count)) m mid at
+      → Written mid at (swatchesBytes (d .colour) (d .count)) n new r → Writes d old new (Done r)
+  unfolding fileOf
+  writes-done {r = r} {new = new} kept z header swatches =
       let ok = write-accepts d (length old) z in
+      let w : Written old 0 (fileOf d) _ new r = written-append header swatches in
       let e : r ≡ length (fileOf d) = omega (arith, w .next) in
       let is = written-front w (ok .1) in
       let written : take r new ≡ fileOf d = ap (take r) is ∙ take-at (fileOf d) _ r (sym e) in

@@ -2,18 +2,15 @@
 use mathlib.Core.Path.{_≡_, refl, sym, ap, ap₂, _∙_}
 use mathlib.Core.Bool.{Bool, true, false, _&&_, cond, and-eq-true-iff}
 use mathlib.Core.List.{List, [], _∷_, _++_}
-use Prim.Native.Nat.{ℕ, zero, suc, _+_, _*_, _^_, _≤_, _<_}
+use Prim.Native.Nat.{ℕ, zero, suc, _+_, _*_, _≤_, _<_}
 use native.Mathlib.Nat.{le-refl}
 use native.Mathlib.Decide.{decLt}
 use native.Mathlib.Omega.{arith}
 use borrow.Author.Tests.{le-leb, eqb-true, eq-eqb}
 use lib.Dec.{leb, eqb}
 use lib.IntN.{ℤ, pos, negsuc, natAbs}
-use lib.Signed.{mag}
 use lib.ListN.{length, take, drop, drop-of-length-le, List·getD-eq-default}
 use lib.Seq.{take-all, drop-drop, drop-append-add}
-use mir.Syntax.{w32}
-use mir.Val.{hbits}
 use Rattle.places.specs.Places.{at, columnOf}
 use Rattle.places.proofs.Columns.{column-length, column-at, column-past}
 use Rattle.sample.specs.Sample.{Colour, colourRefusal, colourSample}
@@ -52,42 +49,26 @@ columns-kept l a b s =
     let nothing : (xs : List ℤ) (k : ℕ) → length xs ≤ k → at xs k ≡ pos 0 = λ xs k h. List·getD-eq-default xs (pos 0) h in
     record {
       most = s .most;
-      past = λ k h i.
-          record {
-            l = nothing l k h i;
-            a = nothing a k (omega (arith, s .a-is)) i;
-            b = nothing b k (omega (arith, s .b-is)) i;
-          };
+      past = λ k h.
+          colours-are (nothing l k h) (nothing a k (omega (arith, s .a-is))) (nothing b k (omega (arith, s .b-is)));
     }
 
--- the numbers of a swatch within the limits are read back
-module _ (c : Colour) (e : colourRefusal c ≡ 0) where
-  fits : (z : ℤ) → natAbs z ≤ 1280000 → mag z < 2 ^ hbits w32
-  fits (pos n) h = omega (arith, h)
-  fits (negsuc n) h = omega (arith, h)
-
-  l-back : signedOf (signedBytes (c .l)) ≡ c .l
-  unfolding colourSample
-  l-back = signed-back (c .l) (fits (c .l) (omega (arith, accepted-in c e .l)))
-
-  a-back : signedOf (signedBytes (c .a)) ≡ c .a
-  unfolding colourSample
-  a-back = signed-back (c .a) (fits (c .a) (accepted-in c e .a))
-
-  b-back : signedOf (signedBytes (c .b)) ≡ c .b
-  unfolding colourSample
-  b-back = signed-back (c .b) (fits (c .b) (accepted-in c e .b))
+-- a number within the limits is read back
+number-back : (z : ℤ) → natAbs z ≤ 1280000 → signedOf (signedBytes z) ≡ z
+number-back (pos n) h = signed-back (pos n) (omega (arith, h))
+number-back (negsuc n) h = signed-back (negsuc n) (omega (arith, h))
 
 -- bytes that go on so from a place hold the swatch there
 colour-there : (bs rest : List ℕ) (c : Colour) (k : ℕ) → colourRefusal c ≡ 0
     → drop (7 + 12 * k) bs ≡ swatchBytes c ++ rest → colourIn bs k ≡ c
-unfolding colourIn swatchBytes signedBytes bytesOf
+unfolding colourSample colourIn swatchBytes signedBytes bytesOf
 colour-there bs rest c k e from =
+    let within = accepted-in c e in
     let later : (j at : ℕ) → at ≡ 7 + 12 * k + j → field at 4 bs ≡ take 4 (drop j (swatchBytes c ++ rest)) = λ j at m.
     ap (λ n. field n 4 bs) m ∙ ap (take 4) (sym (drop-drop j (7 + 12 * k) bs)) ∙ ap (λ t. take 4 (drop j t)) from in
-    let l = ap (λ t. signedOf (take 4 t)) from ∙ l-back c e in
-    let a = ap signedOf (later 4 (11 + 12 * k) (omega arith)) ∙ a-back c e in
-    let b = ap signedOf (later 8 (15 + 12 * k) (omega arith)) ∙ b-back c e in
+    let l = ap (λ t. signedOf (take 4 t)) from ∙ number-back (c .l) (omega (arith, within .l)) in
+    let a = ap signedOf (later 4 (11 + 12 * k) (omega arith)) ∙ number-back (c .a) (within .a) in
+    let b = ap signedOf (later 8 (15 + 12 * k) (omega arith)) ∙ number-back (c .b) (within .b) in
     colours-are l a b
 
 -- past the last byte stand blank swatches

@@ -4,7 +4,7 @@ use Prim.Native.Nat.{_+_, _*_, _≤_}
 use native.Mathlib.Omega.{arith}
 use lib.ListN.{length}
 use borrow.Author.Needs.{needs}
-use Rattle.buffer.proofs.WritingLaws.{written-append, written-length}
+use Rattle.buffer.proofs.WritingLaws.{written-length}
 use Rattle.deck.specs.Deck.{columns, deckRefusal}
 use Rattle.deck.proofs.DeckLaws.{Sizes}
 use Rattle.deck_file.specs.Layout.{fileOf}
@@ -49,13 +49,12 @@ put-swatches-requires c κs =
     ((sizes e .a-is, sizes e .b-is), omega (arith, w .next, w .size, written-length w, room e))
 
 returns-2 : tie.Need-returns-2
-unfolding fileOf
 returns-2 c =
     let s = c .before .before in
     let h = s .before .before .before .before in
     let e = h .before .before in
-    let w = written-append (h .put-header .ensures) (s .put-swatches .ensures) in
-    (writes-done _ _ (columns-kept _ _ _ (sizes e)) (not-refused e) w, (refl, (refl, refl)))
+    let done = writes-done _ _ (columns-kept _ _ _ (sizes e)) (not-refused e) in
+    (done (h .put-header .ensures) (s .put-swatches .ensures), (refl, (refl, refl)))
 
 pub write-spec : {M : Type 1} → statement M
 write-spec =
