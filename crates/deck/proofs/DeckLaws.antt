@@ -43,6 +43,14 @@ pub sizes-in : (l a b : List ℤ) → Sizes l a b → sizesIn l a b ≡ true
 unfolding sizesIn
 sizes-in l a b s = ap₂ _&&_ (eq-eqb _ _ (s .a-is)) (ap₂ _&&_ (eq-eqb _ _ (s .b-is)) (le-leb _ _ (s .most)))
 
+-- ---- the refusal of a deck
+
+-- of what the tests found
+pub refusal-is : (d : Deck) (s t u : Bool) → d .sized ≡ s → swatchesIn d ≡ t → lightnessRises d ≡ u
+    → cond (not s) 6 (cond (not t || not u) 7 0) ≡ deckRefusal d
+unfolding deckRefusal
+refusal-is d s t u e f g = cc
+
 -- ---- a deck that is not refused
 
 pub record Valid (d : Deck) : Type 0 where

@@ -1,6 +1,6 @@
 -- What the tests of a deck come to, for the proofs of its functions. Assumes nothing.
 use mathlib.Core.Path.{_≡_, sym, ap, _∙_}
-use mathlib.Core.Bool.{Bool, true, false, not, _||_, cond}
+use mathlib.Core.Bool.{Bool, true, false}
 use Prim.Native.Nat.{ℕ, _+_, _<_}
 use borrow.Author.Tests.{eq-eqb, ne-eqb}
 use lib.Dec.{eqb}
@@ -10,7 +10,7 @@ use Rattle.sample.specs.Sample.{colourRefusal}
 use Rattle.sample.specs.Refusals.{firstOf, firstRefusal}
 use Rattle.sample.proofs.RefusalLaws.{first-last}
 use Rattle.fixed_point.specs.Refusals.{readingRefusal, weightsRefusal, toleranceRefusal}
-use Rattle.deck.specs.Deck.{Deck, Query, swatchesIn, lightnessRises, deckRefusal, searchRefusal}
+use Rattle.deck.specs.Deck.{Deck, Query, swatchesIn, deckRefusal, searchRefusal}
 
 module _ (d : Deck) where
   -- the test of one swatch
@@ -28,12 +28,6 @@ module _ (d : Deck) where
   pub swatches-whole : (k : ℕ) → k ≡ d .count → every swatchIn k ≡ true → true ≡ swatchesIn d
   unfolding swatchesIn
   swatches-whole k e h = sym h ∙ ap (every swatchIn) e
-
-  -- the refusal, of what the tests found
-  pub refusal-is : (s t u : Bool) → d .sized ≡ s → swatchesIn d ≡ t → lightnessRises d ≡ u
-      → cond (not s) 6 (cond (not t || not u) 7 0) ≡ deckRefusal d
-  unfolding deckRefusal
-  refusal-is s t u e f g = cc
 
   -- the refusals in their order, of what was found of each
   pub search-refusal-is : (q : Query) {r w t k m n o : ℕ}

@@ -2,15 +2,16 @@
 use mathlib.Core.Path.{_≡_, refl, sym, ap, ap₂, _∙_}
 use mathlib.Core.Bool.{Bool, true, false, not, _&&_, _||_, cond, and-eq-true-iff}
 use mathlib.Core.List.{List, [], _∷_}
-use Prim.Native.Nat.{ℕ, zero, suc, _+_, _*_, _≤_, _<_}
+use Prim.Native.Nat.{ℕ, _+_, _*_, _≤_, _<_}
 use lib.Dec.{leb, eqb}
 use lib.ListN.{length, take}
 use borrow.Author.Tests.{le-leb, lt-leb, leb-true, eq-eqb, ne-eqb}
 use Rattle.places.specs.Places.{every}
 use Rattle.sample.specs.Refusals.{firstOf, firstRefusal}
-use Rattle.sample.proofs.RefusalLaws.{first-none, first-applies, first-last}
+use Rattle.sample.proofs.RefusalLaws.{first-none, first-applies, first-last, first-cons, first-assoc}
 use Rattle.buffer.specs.Numbers.{same}
 use Rattle.deck.specs.Deck.{Deck, mostSwatches, swatchesIn, lightnessRises, deckRefusal}
+use Rattle.deck.proofs.DeckLaws.{refusal-is}
 use Rattle.deck_file.specs.Layout.{mark, version, fileOf, versionIn, countIn, readOf}
 use Rattle.deck_file.specs.Refusals.{markRefusal, versionRefusal, lengthRefusal, fileRefusal, roomRefusal}
 use Rattle.deck_file.specs.Refusals.{writeRefusal, readRefusal}
@@ -67,32 +68,24 @@ seven false t u e = ap (λ b. cond b 0 7) (sym e)
 
 module _ (bs : List ℕ) (n : ℕ) (e : n ≡ countIn bs) where
   pub too-many : mostSwatches < n → 6 ≡ deckRefusal (readOf bs)
-  unfolding deckRefusal
   too-many h =
       let sized : leb (countIn bs) mostSwatches ≡ false = rw (← e) (lt-leb n mostSwatches h) in
-      sym (ap (λ s. cond (not s) 6 (cond (not (swatchesIn (readOf bs)) || not (lightnessRises (readOf bs))) 7 0)) sized)
+      refusal-is (readOf bs) false _ _ sized refl refl
 
   pub tested : (t : Bool) → n ≤ mostSwatches → every (swatchInOrder (readOf bs)) n ≡ t
       → cond t 0 7 ≡ deckRefusal (readOf bs)
-  unfolding deckRefusal swatchesIn lightnessRises
+  unfolding swatchesIn lightnessRises
   tested t h f =
       let d : Deck = readOf bs in
       let sized : leb (countIn bs) mostSwatches ≡ true = rw (← e) (le-leb n mostSwatches h) in
       let whole : (swatchesIn d && lightnessRises d) ≡ t =
       sym (orderly d (countIn bs)) ∙ ap (every (swatchInOrder d)) (sym e) ∙ f in
-      seven (swatchesIn d) (lightnessRises d) t whole
-      ∙ sym (ap (λ s. cond (not s) 6 (cond (not (swatchesIn d) || not (lightnessRises d)) 7 0)) sized)
+      seven (swatchesIn d) (lightnessRises d) t whole ∙ refusal-is d true _ _ sized refl refl
 
 -- ---- the order
 
 two-are : (m n : ℕ) → firstRefusal (m ∷ n ∷ []) ≡ firstOf m n
-unfolding firstRefusal
-two-are zero n = first-last n
-two-are (suc m) n = refl
-
-first-of-three : (m n o : ℕ) → firstOf (firstOf m n) o ≡ firstOf m (firstOf n o)
-first-of-three zero n o = refl
-first-of-three (suc m) n o = refl
+two-are m n = first-cons m (n ∷ []) ∙ ap (λ k. firstOf m k) (first-last n)
 
 module _ (d : Deck) (room : ℕ) where
   write-is : writeRefusal d room ≡ firstOf (deckRefusal d) (roomRefusal (leb (7 + 12 * d .count) room))
@@ -122,7 +115,7 @@ module _ (bs : List ℕ) (l a b : ℕ) where
   unfolding readRefusal
   read-is =
       two-are (fileRefusal bs) byRoom ∙ ap (λ k. firstOf k byRoom) (sym (file-is bs))
-      ∙ first-of-three (formRefusal bs) (deckRefusal (readOf bs)) byRoom
+      ∙ first-assoc (formRefusal bs) (deckRefusal (readOf bs)) byRoom
 
   pub read-by-form : {r : ℕ} → r ≡ formRefusal bs → (r ≡ 0 → ⊥) → r ≡ readRefusal bs l a b
   read-by-form {r} e h =

@@ -2,7 +2,7 @@
 // mark FAN, a version, the number of swatches and 12 bytes a swatch; specs/Layout.antt has it whole.
 ghost use mathlib.Core.Path.{_≡_};
 ghost use mathlib.Core.List.{_++_};
-ghost use Prim.Native.Nat.{_+_, _*_, _≤_};
+ghost use Prim.Native.Nat.{ℕ, _+_, _*_, _≤_, _<_};
 ghost use lib.ListN.{length, drop};
 ghost use Rattle.places.specs.Places.{every, columnOf};
 ghost use Rattle.buffer.specs.Writing.{Written};
@@ -209,7 +209,7 @@ fn read_refusal(file: &[u8], l_room: usize, a_room: usize, b_room: usize) -> u8
 
 // Reads the numbers that stand 12 bytes apart, from a place on, to the front of a column.
 fn read_column(file: &[u8], first: usize, n: usize, column: &mut [i32])
-    requires { ⌜ first + 12 * n ≤ length (now file) + 8 ⌝ }
+    requires { ⌜ ((k : ℕ) → k < n → first + 12 * k + 4 ≤ length (now file)) ⌝ }
     requires { ⌜ n ≤ length (now column) ⌝ }
     ensures { λ _.
         let numbers = columnOf (columnIn (now (file .entry)) first) n in

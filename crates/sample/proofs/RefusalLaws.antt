@@ -27,7 +27,7 @@ first-cons n ns = refl
 pub none-of : (n : ℕ) (ns : List ℕ) → firstRefusal (n ∷ ns) ≡ 0 → (n ≡ 0) × (firstRefusal ns ≡ 0)
 none-of n ns e = first-none n (firstRefusal ns) (sym (first-cons n ns) ∙ e)
 
-first-assoc : (m n k : ℕ) → firstOf (firstOf m n) k ≡ firstOf m (firstOf n k)
+pub first-assoc : (m n k : ℕ) → firstOf (firstOf m n) k ≡ firstOf m (firstOf n k)
 first-assoc zero n k = refl
 first-assoc (suc m) n k = refl
 

@@ -3,7 +3,7 @@ use mathlib.Core.Path.{refl, sym, _∙_}
 use mathlib.Core.Bool.{true, false}
 use Rattle.deck.specs.Deck.{lightnessRises}
 use Rattle.deck.specs.Inner.{lanesAt}
-use Rattle.deck.proofs.Steps.{refusal-is}
+use Rattle.deck.proofs.DeckLaws.{refusal-is}
 use Rattle.deck.proofs.lanes_refusal.Statement.{statement}
 use Rattle.deck.proofs.lanes_refusal.Tie as tie
 

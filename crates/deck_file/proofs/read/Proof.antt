@@ -27,19 +27,19 @@ read-column-requires : tie.Need-read-column-requires
 read-column-requires c κs =
     let n = c .before in
     let e = n .count-in .ensures .0 in
-    (omega (arith, e, formed (n .before)), omega (arith, e, accepted (n .before)))
+    ((λ k h. omega (arith, e, formed (n .before))), omega (arith, e, accepted (n .before)))
 
 read-column-requires-2 : tie.Need-read-column-requires-2
 read-column-requires-2 c κs =
     let n = c .before .before .before .before in
     let e = n .count-in .ensures .0 in
-    (omega (arith, e, formed (n .before)), omega (arith, e, accepted (n .before)))
+    ((λ k h. omega (arith, e, formed (n .before))), omega (arith, e, accepted (n .before)))
 
 read-column-requires-3 : tie.Need-read-column-requires-3
 read-column-requires-3 c κs =
     let n = c .before .before .before .before .before .before .before in
     let e = n .count-in .ensures .0 in
-    (omega (arith, e, formed (n .before)), omega (arith, e, accepted (n .before)))
+    ((λ k h. omega (arith, e, formed (n .before))), omega (arith, e, accepted (n .before)))
 
 returns-2 : tie.Need-returns-2
 returns-2 c =

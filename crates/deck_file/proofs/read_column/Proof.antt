@@ -1,7 +1,7 @@
 -- `deck_file::read_column` meets its contract: the first k numbers are read, and the rest is as it was. Assumes nothing.
 use mathlib.Core.Path.{_≡_, refl}
 use mathlib.Core.List.{_++_}
-use Prim.Native.Nat.{_-_, _≤_}
+use Prim.Native.Nat.{_+_, _-_, _*_, _≤_}
 use native.Mathlib.Omega.{arith}
 use lib.ListN.{length, drop, length-set}
 use Rattle.places.specs.Places.{columnOf}
@@ -22,6 +22,10 @@ loop-holds : tie.Need-loop-holds Inv-loop μ-loop
 unfolding columnOf
 loop-holds c = (omega arith, refl, refl)
 
+there : (c : tie.In-loop Inv-loop μ-loop) → let x = c .before .before .before .args in
+    x .first + 12 * c .before .loop .k + 4 ≤ length (x .file .now)
+there c = c .before .before .before .pre .0 _ (c .loop-test .taken)
+
 loop-again : tie.Need-loop-again Inv-loop μ-loop
 loop-again c =
     let l = c .before .before .loop in
@@ -38,9 +42,9 @@ read-column-spec =
     Inv-loop
     μ-loop
     loop-holds
-    (λ c. omega arith)
-    (λ c. omega arith)
-    (λ c κs. omega arith)
+    (λ c. omega (arith, there c))
+    (λ c. omega (arith, there c))
+    (λ c κs. there c)
     (λ c. omega arith)
     (λ c. omega arith)
     (λ c. omega arith)
