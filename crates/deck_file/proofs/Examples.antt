@@ -8,8 +8,8 @@ use Rattle.sample.specs.Sample.{colourRefusal}
 use Rattle.sample.specs.Refusals.{firstRefusal}
 use Rattle.buffer.specs.Numbers.{bytesOf, unsignedOf, signedBytes, signedOf, same}
 use Rattle.deck.specs.Deck.{columns, columnsAt, sizesIn, swatchesIn, lightnessRises, deckRefusal}
-use Rattle.deck_file.specs.Layout.{swatchBytes, swatchesBytes, headerBytes, fileOf, versionIn, countIn, colourIn}
-use Rattle.deck_file.specs.Refusals.{markRefusal, versionRefusal, lengthRefusal, fileRefusal}
+use Rattle.deck_file.specs.Layout.{swatchBytes, swatchesBytes, headerBytes, fileOf, versionIn, countIn, colourIn, readOf}
+use Rattle.deck_file.specs.Refusals.{markRefusal, versionRefusal, lengthRefusal, fileRefusal, writeRefusal, readRefusal}
 
 -- L 50, a 2.6772, b -79.7751
 pub one-swatch :
@@ -44,3 +44,24 @@ pub swatches :
 unfolding bytesOf unsignedOf signedOf same every rising colourRefusal firstRefusal swatchesIn lightnessRises deckRefusal
     versionIn countIn colourIn markRefusal versionRefusal lengthRefusal fileRefusal
 swatches = refl
+
+-- 6 comes of the count alone
+pub too-many : deckRefusal (readOf (70 ∷ 65 ∷ 78 ∷ 1 ∷ 0 ∷ 1 ∷ 16 ∷ [])) ≡ 6
+unfolding unsignedOf countIn deckRefusal
+too-many = refl
+
+-- a write with a byte too few, and with room enough; 6 and 7 before 13
+pub rooms-of-a-file :
+    writeRefusal (columns [] [] []) 6 ∷ writeRefusal (columns [] [] []) 7 ∷ writeRefusal (columns (pos 1 ∷ []) [] []) 0 ∷
+    writeRefusal (columns (negsuc 0 ∷ []) (pos 0 ∷ []) (pos 0 ∷ [])) 0 ∷ [] ≡ 13 ∷ 0 ∷ 6 ∷ 7 ∷ []
+unfolding every rising colourRefusal firstRefusal columnsAt sizesIn swatchesIn lightnessRises deckRefusal bytesOf signedBytes
+    swatchBytes swatchesBytes headerBytes fileOf writeRefusal
+rooms-of-a-file = refl
+
+-- a read with room enough, and with one entry too few in each column on its own; 7 before 13
+pub rooms-of-columns :
+    readRefusal (fan 1 (grey 5)) 1 1 1 ∷ readRefusal (fan 1 (grey 5)) 0 1 1 ∷ readRefusal (fan 1 (grey 5)) 1 0 1 ∷
+    readRefusal (fan 1 (grey 5)) 1 1 0 ∷ readRefusal (fan 2 (grey 5 ++ grey 4)) 0 0 0 ∷ [] ≡ 0 ∷ 13 ∷ 13 ∷ 13 ∷ 7 ∷ []
+unfolding bytesOf unsignedOf signedOf same every rising colourRefusal firstRefusal swatchesIn lightnessRises deckRefusal
+    versionIn countIn colourIn markRefusal versionRefusal lengthRefusal fileRefusal readRefusal
+rooms-of-columns = refl
