@@ -14,7 +14,7 @@ use lib.Signed.{mag}
 use lib.ListN.{length, getD, take, drop, length-take, length-drop, drop-of-length-le}
 use lib.Seq.{drop-cons, drop-drop, take-add, getD-take, getD-drop, length-take-le}
 use mir.Syntax.{w32}
-use mir.Val.{Fits, hbits, ofZ, toZ}
+use mir.Val.{hbits, ofZ, toZ}
 use mir.Facts.{toZ-ofZ, ofZ-toZ, fits-ofZ}
 use Rattle.buffer.specs.Numbers.{bytesOf, unsignedOf, signedBytes, signedOf, field, same}
 

@@ -1,5 +1,6 @@
--- `DeckLaws` and `Searching` are for callers; the others are for the proofs of this crate's functions.
+-- `DeckLaws`, `Orderly` and `Searching` are for callers; the others are for the proofs of this crate's functions.
 pub mod DeckLaws
+pub mod Orderly
 pub mod Lanes
 pub mod LightnessWindow
 pub mod Searching

@@ -1,11 +1,14 @@
 -- What the structs of the inner functions stand for, how a deck lies in lanes, and the bounds that functions ask for.
 use mathlib.Core.Path.{_≡_}
+use mathlib.Core.Bool.{Bool, _&&_}
 use mathlib.Core.List.{List}
-use Prim.Native.Nat.{ℕ, _≤_}
-use lib.IntN.{ℤ}
+use Prim.Native.Nat.{ℕ, zero, suc, _≤_}
+use lib.Dec.{eqb}
+use lib.IntN.{ℤ, pos}
 use lib.ListN.{length, take}
+use lib.Signed.{leZ}
 use Rattle.places.specs.Inner.{laneAt, Spans}
-use Rattle.sample.specs.Sample.{Colour}
+use Rattle.sample.specs.Sample.{Colour, colourRefusal}
 use Rattle.sample.specs.Inner.{WeightsIn}
 use Rattle.difference.specs.Inner.{preparedSample, Ready}
 use Rattle.deck.specs.Deck.{Deck, FixedQuery, mostSwatches, sizesIn, deckRefusal}
@@ -60,3 +63,14 @@ pub record ScratchIs (xs : List ℕ) (scratch : List ℕ) (n : ℕ) : Type 0 whe
   pub size : length scratch ≡ mostSwatches
   pub most : n ≤ mostSwatches
   pub is : take n scratch ≡ xs
+
+-- ---- limits and order in one test
+
+-- the lightness before a place, and 0, the least, before the first
+abbrev pub lightnessBefore : Deck → ℕ → ℤ
+lightnessBefore d zero = pos 0
+lightnessBefore d (suc k) = d .colour k .l
+
+-- the swatch is within the limits, and no darker than the one before it
+unfoldable pub swatchInOrder : Deck → ℕ → Bool
+swatchInOrder d k = leZ (lightnessBefore d k) (d .colour k .l) && eqb (colourRefusal (d .colour k)) 0

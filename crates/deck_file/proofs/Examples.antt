@@ -2,7 +2,7 @@
 use mathlib.Core.Path.{_≡_, refl}
 use mathlib.Core.List.{List, [], _∷_, _++_}
 use Prim.Native.Nat.{ℕ}
-use lib.IntN.{ℤ, pos, negsuc}
+use lib.IntN.{pos, negsuc}
 use Rattle.places.specs.Places.{every, rising}
 use Rattle.sample.specs.Sample.{colourRefusal}
 use Rattle.sample.specs.Refusals.{firstRefusal}

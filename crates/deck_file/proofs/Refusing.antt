@@ -1,6 +1,6 @@
 -- The refusals of a write and of a read, from what each test found. Assumes nothing.
 use mathlib.Core.Path.{_≡_, refl, sym, ap, ap₂, _∙_}
-use mathlib.Core.Bool.{Bool, true, false, not, _&&_, _||_, cond, and-eq-true-iff}
+use mathlib.Core.Bool.{Bool, true, false, _&&_, cond, and-eq-true-iff}
 use mathlib.Core.List.{List, [], _∷_}
 use Prim.Native.Nat.{ℕ, _+_, _*_, _≤_, _<_}
 use lib.Dec.{leb, eqb}
@@ -10,13 +10,14 @@ use Rattle.places.specs.Places.{every}
 use Rattle.sample.specs.Refusals.{firstOf, firstRefusal}
 use Rattle.sample.proofs.RefusalLaws.{first-none, first-applies, first-last, first-cons, first-assoc}
 use Rattle.buffer.specs.Numbers.{same}
-use Rattle.deck.specs.Deck.{Deck, mostSwatches, swatchesIn, lightnessRises, deckRefusal}
+use Rattle.deck.specs.Deck.{Deck, mostSwatches, deckRefusal}
+use Rattle.deck.specs.Inner.{swatchInOrder}
 use Rattle.deck.proofs.DeckLaws.{refusal-is}
+use Rattle.deck.proofs.Orderly.{orderly-refusal}
 use Rattle.deck_file.specs.Layout.{mark, version, fileOf, versionIn, countIn, readOf}
 use Rattle.deck_file.specs.Refusals.{markRefusal, versionRefusal, lengthRefusal, fileRefusal, roomRefusal}
 use Rattle.deck_file.specs.Refusals.{writeRefusal, readRefusal}
-use Rattle.deck_file.specs.Inner.{formRefusal, swatchInOrder}
-use Rattle.deck_file.proofs.Swatches.{orderly}
+use Rattle.deck_file.specs.Inner.{formRefusal}
 use Rattle.deck_file.proofs.RoundTrip.{passed, file-length, file-is}
 
 -- ---- the form of a file
@@ -61,11 +62,6 @@ module _ (bs : List ℕ) where
 
 -- ---- the deck in a file, whose count is n
 
-seven : (s t u : Bool) → (s && t) ≡ u → cond {A = ℕ} u 0 7 ≡ cond (not s || not t) 7 0
-seven true true u e = ap (λ b. cond b 0 7) (sym e)
-seven true false u e = ap (λ b. cond b 0 7) (sym e)
-seven false t u e = ap (λ b. cond b 0 7) (sym e)
-
 module _ (bs : List ℕ) (n : ℕ) (e : n ≡ countIn bs) where
   pub too-many : mostSwatches < n → 6 ≡ deckRefusal (readOf bs)
   too-many h =
@@ -74,13 +70,9 @@ module _ (bs : List ℕ) (n : ℕ) (e : n ≡ countIn bs) where
 
   pub tested : (t : Bool) → n ≤ mostSwatches → every (swatchInOrder (readOf bs)) n ≡ t
       → cond t 0 7 ≡ deckRefusal (readOf bs)
-  unfolding swatchesIn lightnessRises
   tested t h f =
-      let d : Deck = readOf bs in
       let sized : leb (countIn bs) mostSwatches ≡ true = rw (← e) (le-leb n mostSwatches h) in
-      let whole : (swatchesIn d && lightnessRises d) ≡ t =
-      sym (orderly d (countIn bs)) ∙ ap (every (swatchInOrder d)) (sym e) ∙ f in
-      seven (swatchesIn d) (lightnessRises d) t whole ∙ refusal-is d true _ _ sized refl refl
+      orderly-refusal (readOf bs) t sized (ap (every (swatchInOrder (readOf bs))) (sym e) ∙ f)
 
 -- ---- the order
 

@@ -1,26 +1,18 @@
--- The swatches of a file: their bytes, and the test of their order. Assumes nothing.
-use mathlib.Core.Path.{_≡_, refl, sym, ap, ap₂, _∙_}
+-- The swatches of a file, and their bytes. Assumes nothing.
+use mathlib.Core.Path.{_≡_, refl, sym, ap, _∙_}
 use mathlib.Core.Logic.{⊎-elim}
-use mathlib.Core.Bool.{Bool, true, false, not, _&&_, _||_, cond, true≢false, and-eq-true-iff}
-use mathlib.Core.List.{List, [], _∷_, _++_, append-nil, append-assoc}
-use Prim.Native.Nat.{ℕ, zero, suc, _+_, _*_, _≤_, _<_, zero-le}
+use mathlib.Core.List.{List, [], _++_, append-nil, append-assoc}
+use Prim.Native.Nat.{ℕ, zero, suc, _+_, _*_, _<_}
 use native.Mathlib.Nat.{eq-or-lt-of-le, le-of-suc-le-suc, not-suc-le-zero}
 use native.Mathlib.Numerals.{add-one}
 use native.Mathlib.Omega.{arith}
-use lib.Dec.{eqb, leb, leb·zero}
-use lib.IntN.{ℤ, pos, natAbs}
-use lib.ListN.{length, take, drop, length-append}
+use lib.IntN.{ℤ}
+use lib.ListN.{length, drop, length-append}
 use lib.Seq.{drop-at, drop-append-le}
-use lib.Signed.{leZ}
-use borrow.Author.Tests.{eqb-true, le-leb}
-use Rattle.places.specs.Places.{every, rising}
-use Rattle.places.proofs.PlacesLaws.{every-at, every-of, rising-at, rising-neighbours}
-use Rattle.sample.specs.Sample.{Colour, colourRefusal}
-use Rattle.sample.proofs.SampleLaws.{accepted-lightness}
+use Rattle.sample.specs.Sample.{Colour}
 use Rattle.buffer.proofs.NumberLaws.{signed-length}
-use Rattle.deck.specs.Deck.{Deck, swatchesIn, lightnessRises, deckRefusal}
 use Rattle.deck_file.specs.Layout.{swatchBytes, swatchesBytes}
-use Rattle.deck_file.specs.Inner.{colour, lightnessBefore, swatchInOrder}
+use Rattle.deck_file.specs.Inner.{colour}
 
 pub colours-are : {l a b l′ a′ b′ : ℤ} → l ≡ l′ → a ≡ a′ → b ≡ b′ → colour l a b ≡ colour l′ a′ b′
 colours-are e f g = λ i. colour (e i) (f i) (g i)
@@ -73,45 +65,3 @@ module _ (at : ℕ → Colour) where
             ∙ append-assoc (swatchBytes (at k)) (f .rest) (swatchBytes (at n));
       })
       (eq-or-lt-of-le (le-of-suc-le-suc h))
-
--- ---- their order
-
-bool-iff : (a b : Bool) → (a ≡ true → b ≡ true) → (b ≡ true → a ≡ true) → a ≡ b
-bool-iff true b f g = sym (f refl)
-bool-iff false true f g = g refl
-bool-iff false false f g = refl
-
--- one test of each swatch and of its neighbour is the test of all and that of their order
-module _ (d : Deck) where
-  abbrev within : ℕ → Bool
-  within k = eqb (colourRefusal (d .colour k)) 0
-
-  abbrev lightness : ℕ → ℤ
-  lightness k = d .colour k .l
-
-  parts : (n k : ℕ) → every (swatchInOrder d) n ≡ true → k < n
-      → (leZ (lightnessBefore d k) (lightness k) ≡ true) × (within k ≡ true)
-  unfolding swatchInOrder
-  parts n k e h =
-      and-eq-true-iff (leZ (lightnessBefore d k) (lightness k)) (within k) .0 (every-at (swatchInOrder d) n k e h)
-
-  no-darker : (n : ℕ) → every within n ≡ true → rising lightness n ≡ true → (k : ℕ) → k < n
-      → leZ (lightnessBefore d k) (lightness k) ≡ true
-  no-darker n w r zero h =
-      rw (accepted-lightness (d .colour 0) (eqb-true _ 0 (every-at within n 0 w h))) (le-leb 0 (natAbs (lightness 0)) zero-le)
-  no-darker n w r (suc k) h = rising-at lightness n k (suc k) r (omega arith) h
-
-  pub orderly : (n : ℕ) → every (swatchInOrder d) n ≡ (every within n && rising lightness n)
-  unfolding swatchInOrder
-  orderly n =
-      bool-iff _ _
-      (λ e.
-      and-eq-true-iff (every within n) (rising lightness n) .1 (
-        every-of within n (λ k h. parts n k e h .1),
-        rising-neighbours lightness n (λ i h. rw (add-one i) (parts n (suc i) e (omega arith) .0)),
-      ))
-      (λ e.
-      let both = and-eq-true-iff (every within n) (rising lightness n) .0 e in
-      every-of (swatchInOrder d) n (λ k h.
-      and-eq-true-iff (leZ (lightnessBefore d k) (lightness k)) (within k) .1
-      (no-darker n (both .0) (both .1) k h, every-at within n k (both .0) h)))

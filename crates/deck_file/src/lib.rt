@@ -7,11 +7,12 @@ ghost use lib.ListN.{length, drop};
 ghost use Rattle.places.specs.Places.{every, columnOf};
 ghost use Rattle.buffer.specs.Writing.{Written};
 ghost use Rattle.sample.specs.Inner.{colourOf};
-ghost use Rattle.deck.specs.Deck.{columns, columnsAt, mostSwatches, deckRefusal};
+ghost use Rattle.deck.specs.Deck.{columns, columnsAt, deckRefusal};
+ghost use Rattle.deck.specs.Inner.{swatchInOrder};
 ghost use Rattle.deck_file.specs.Layout.{swatchBytes, swatchesBytes, headerBytes, countIn, colourIn, readOf};
 ghost use Rattle.deck_file.specs.Refusals.{roomRefusal, writeRefusal, readRefusal};
 ghost use Rattle.deck_file.specs.Transfers.{lent, Writes, Reads};
-ghost use Rattle.deck_file.specs.Inner.{formRefusal, colour, columnIn, swatchInOrder};
+ghost use Rattle.deck_file.specs.Inner.{formRefusal, colour, columnIn};
 use sample::FixedColour;
 
 // What a file starts with.

@@ -1,5 +1,5 @@
 -- `deck_file::read_refusal` meets its contract. Assumes nothing.
-use mathlib.Core.Path.{_≡_, sym, ap, _∙_}
+use mathlib.Core.Path.{sym, _∙_}
 use native.Mathlib.Omega.{arith}
 use borrow.Author.Needs.{needs}
 use Rattle.deck_file.proofs.RoundTrip.{Formed, form-formed}

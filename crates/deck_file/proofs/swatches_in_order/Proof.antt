@@ -1,7 +1,7 @@
 -- `deck_file::swatches_in_order` meets its contract: the swatches before k are tested. Assumes nothing.
 use mathlib.Core.Path.{_≡_, refl, sym, ap, ap₂, _∙_}
 use mathlib.Core.Bool.{_&&_}
-use Prim.Native.Nat.{_+_, _-_, _≤_}
+use Prim.Native.Nat.{_-_, _≤_}
 use native.Mathlib.Numerals.{add-one}
 use native.Mathlib.Omega.{arith}
 use borrow.Author.Needs.{needs}
@@ -14,7 +14,7 @@ use Rattle.places.proofs.PlacesLaws.{every-none, every-next}
 use Rattle.places.proofs.Order.{read-back}
 use Rattle.sample.specs.Sample.{colourRefusal}
 use Rattle.deck_file.specs.Layout.{colourIn, readOf}
-use Rattle.deck_file.specs.Inner.{lightnessBefore, swatchInOrder}
+use Rattle.deck.specs.Inner.{lightnessBefore, swatchInOrder}
 use Rattle.deck_file.proofs.swatches_in_order.Statement.{statement}
 use Rattle.deck_file.proofs.swatches_in_order.Tie as tie
 
