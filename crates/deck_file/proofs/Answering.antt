@@ -21,6 +21,7 @@ use Rattle.deck_file.specs.Transfers.{columnsAfter, Columns, lent, lentR
 use Rattle.deck_file.specs.declared.Transfer.{Transfer}
 use Rattle.deck_file.specs.declared.Transfer.the-variants.{Done, Refused}
 use Rattle.deck_file.specs.Inner.{columnIn}
+use Rattle.deck_file.proofs.Swatches.{ap₃}
 use Rattle.deck_file.proofs.RoundTrip.{Kept, file-of-deck, deck-of-file, form-formed, file-parts, columns-read}
 use Rattle.deck_file.proofs.Refusing.{write-accepts, read-accepts}
 
@@ -99,12 +100,6 @@ module _ (d : Deck) (old : List ℕ) where
 
 -- ---- a read
 
-columns-are : {l a b l′ a′ b′ : List ℤ} → l ≡ l′ → a ≡ a′ → b ≡ b′ → columns l a b ≡ columns l′ a′ b′
-columns-are e f g = λ i. columns (e i) (f i) (g i)
-
-lents-are : {l a b l′ a′ b′ : List ℤ} → l ≡ l′ → a ≡ a′ → b ≡ b′ → lent l a b ≡ lent l′ a′ b′
-lents-are e f g = λ i. lent (e i) (f i) (g i)
-
 module _ (bs : List ℕ) (l a b : List ℤ) where
   abbrev old : Columns
   old = lent l a b
@@ -124,7 +119,7 @@ module _ (bs : List ℕ) (l a b : List ℤ) where
         answer = answer;
         contents = contents;
         number = ap transferNumber answer ∙ number-is refusal (countIn bs);
-        kept = rw (answer, contents) (lents-are (kept _ l) (kept _ a) (kept _ b));
+        kept = rw (answer, contents) (ap₃ lent (kept _ l) (kept _ a) (kept _ b));
         back = back;
       }
 
@@ -132,7 +127,7 @@ module _ (bs : List ℕ) (l a b : List ℤ) where
   unfolding columnsAfter
   reads-refused e h =
       reads (refused-answer e h (countIn bs))
-      (lents-are (refused-contents e h _ l) (refused-contents e h _ a) (refused-contents e h _ b))
+      (ap₃ lent (refused-contents e h _ l) (refused-contents e h _ a) (refused-contents e h _ b))
       (λ z. absurd (h (e ∙ z)))
 
   module _ {n : ℕ} (z : refusal ≡ 0) (e : n ≡ countIn bs) (g : ℕ → ℤ) (xs : List ℤ) {ys : List ℤ}
@@ -156,9 +151,9 @@ module _ (bs : List ℕ) (l a b : List ℤ) where
       let fl = column-front z e (columnIn bs 7) l el in
       let fa = column-front z e (columnIn bs 11) a ea in
       let fb = column-front z e (columnIn bs 15) b eb in
-      let deck = columns-are fl fa fb ∙ columns-read bs (form-formed bs (parts .0)) most in
+      let deck = ap₃ columns fl fa fb ∙ columns-read bs (form-formed bs (parts .0)) most in
       reads (done-answer z e)
-      (lents-are
+      (ap₃ lent
       (column-done z e (columnIn bs 7) l el)
       (column-done z e (columnIn bs 11) a ea)
       (column-done z e (columnIn bs 15) b eb))

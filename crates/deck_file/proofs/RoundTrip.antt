@@ -26,8 +26,8 @@ use Rattle.deck_file.specs.Layout.{versionIn, countIn, colourIn, readOf}
 use Rattle.deck_file.specs.Refusals.{markRefusal, versionRefusal, lengthRefusal, fileRefusal, writeRefusal}
 use Rattle.deck_file.specs.Transfers.{IsFile, Writes, Reads, Columns, front, transferSize, lentRefusal}
 use Rattle.deck_file.specs.declared.Transfer.{Transfer}
-use Rattle.deck_file.specs.Inner.{formRefusal}
-use Rattle.deck_file.proofs.Swatches.{colours-are, swatches-length, swatch-from}
+use Rattle.deck_file.specs.Inner.{formRefusal, colour}
+use Rattle.deck_file.proofs.Swatches.{ap₃, swatches-length, swatch-from}
 
 -- ---- a deck, written
 
@@ -50,7 +50,7 @@ columns-kept l a b s =
     record {
       most = s .most;
       past = λ k h.
-          colours-are (nothing l k h) (nothing a k (omega (arith, s .a-is))) (nothing b k (omega (arith, s .b-is)));
+          ap₃ colour (nothing l k h) (nothing a k (omega (arith, s .a-is))) (nothing b k (omega (arith, s .b-is)));
     }
 
 -- a number within the limits is read back
@@ -69,7 +69,7 @@ colour-there bs rest c k e from =
     let l = ap (λ t. signedOf (take 4 t)) from ∙ number-back (c .l) (omega (arith, within .l)) in
     let a = ap signedOf (later 4 (11 + 12 * k) (omega arith)) ∙ number-back (c .a) (within .a) in
     let b = ap signedOf (later 8 (15 + 12 * k) (omega arith)) ∙ number-back (c .b) (within .b) in
-    colours-are l a b
+    ap₃ colour l a b
 
 -- past the last byte stand blank swatches
 colour-past : (bs : List ℕ) (k : ℕ) → length bs ≤ 7 + 12 * k → colourIn bs k ≡ blank
@@ -80,7 +80,7 @@ colour-past bs k h =
     let l = nothing (7 + 12 * k) h in
     let a = nothing (11 + 12 * k) (omega arith) in
     let b = nothing (15 + 12 * k) (omega arith) in
-    colours-are l a b
+    ap₃ colour l a b
 
 none-applies : {m v l d : ℕ} → m ≡ 0 → v ≡ 0 → l ≡ 0 → d ≡ 0 → firstRefusal (m ∷ v ∷ l ∷ d ∷ []) ≡ 0
 unfolding firstRefusal
@@ -233,7 +233,7 @@ module _ (bs : List ℕ) (formed : Formed bs) (most : countIn bs ≤ mostSwatche
   unfolding columnsAt
   swatch-kept k =
       let d = decLt k (countIn bs) in
-      colours-are (column-kept (λ c. c .l) refl k d) (column-kept (λ c. c .a) refl k d) (column-kept (λ c. c .b) refl k d)
+      ap₃ colour (column-kept (λ c. c .l) refl k d) (column-kept (λ c. c .a) refl k d) (column-kept (λ c. c .b) refl k d)
 
   pub columns-read : columnsIn ≡ readOf bs
   columns-read =

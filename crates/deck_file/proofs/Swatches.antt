@@ -6,16 +6,15 @@ use Prim.Native.Nat.{ℕ, zero, suc, _+_, _*_, _<_}
 use native.Mathlib.Nat.{eq-or-lt-of-le, le-of-suc-le-suc, not-suc-le-zero}
 use native.Mathlib.Numerals.{add-one}
 use native.Mathlib.Omega.{arith}
-use lib.IntN.{ℤ}
 use lib.ListN.{length, drop, length-append}
 use lib.Seq.{drop-at, drop-append-le}
 use Rattle.sample.specs.Sample.{Colour}
 use Rattle.buffer.proofs.NumberLaws.{signed-length}
 use Rattle.deck_file.specs.Layout.{swatchBytes, swatchesBytes}
-use Rattle.deck_file.specs.Inner.{colour}
 
-pub colours-are : {l a b l′ a′ b′ : ℤ} → l ≡ l′ → a ≡ a′ → b ≡ b′ → colour l a b ≡ colour l′ a′ b′
-colours-are e f g = λ i. colour (e i) (f i) (g i)
+-- a function of three things that are equal: the parts of a colour, or three columns
+pub ap₃ : {A B : Type 0} (f : A → A → A → B) {x y z x′ y′ z′ : A} → x ≡ x′ → y ≡ y′ → z ≡ z′ → f x y z ≡ f x′ y′ z′
+ap₃ f e g h = λ i. f (e i) (g i) (h i)
 
 -- ---- their bytes
 

@@ -7,7 +7,8 @@ use borrow.Author.Needs.{needs}
 use Rattle.places.proofs.Order.{read-back}
 use Rattle.buffer.specs.Numbers.{signedOf, field}
 use Rattle.deck_file.specs.Layout.{colourIn}
-use Rattle.deck_file.proofs.Swatches.{colours-are}
+use Rattle.deck_file.specs.Inner.{colour}
+use Rattle.deck_file.proofs.Swatches.{ap₃}
 use Rattle.deck_file.proofs.colour_in.Statement.{statement}
 use Rattle.deck_file.proofs.colour_in.Tie as tie
 
@@ -24,7 +25,7 @@ returns c =
     let el = a .before .from-i32 .ensures .is ∙ read-back (l .i32-at .ok) (l .i32-at .ensures) in
     let ea = b .before .from-i322 .ensures .is ∙ read-back (a .i32-at2 .ok) (a .i32-at2 .ensures ∙ ap at second) in
     let eb = c .from-i323 .ensures .is ∙ read-back (b .i32-at3 .ok) (b .i32-at3 .ensures ∙ ap at third) in
-    colours-are el ea eb
+    ap₃ colour el ea eb
 
 pub colour-in-spec : {M : Type 1} → statement M
 colour-in-spec =

@@ -8,7 +8,8 @@ use Rattle.buffer.specs.Writing.{Written}
 use Rattle.buffer.proofs.WritingLaws.{written-length, written-append, written-none, written-is, written-most}
 use Rattle.deck.specs.Deck.{columnsAt}
 use Rattle.deck_file.specs.Layout.{swatchesBytes}
-use Rattle.deck_file.proofs.Swatches.{colours-are, swatches-none, swatches-more}
+use Rattle.deck_file.specs.Inner.{colour}
+use Rattle.deck_file.proofs.Swatches.{ap₃, swatches-none, swatches-more}
 use Rattle.deck_file.proofs.put_swatches.Statement.{statement}
 use Rattle.deck_file.proofs.put_swatches.Tie as tie
 
@@ -36,7 +37,7 @@ loop-again c =
     let l = q .before .before .before .loop in
     let fits : 12 * l .k + 12 ≤ 12 * (l .k + 1) = omega arith in
     let more : l .k + 1 ≤ length (q .before .before .before .before .before .args .l .now) = omega arith in
-    let here = colours-are (read-back (q .put-swatch-arg2 .given) refl)
+    let here = ap₃ colour (read-back (q .put-swatch-arg2 .given) refl)
     (read-back (p .before .before .put-swatch-arg3 .given) refl) (read-back (p .before .put-swatch-arg4 .given) refl) in
     let w = written-append (l .inv .2) (p .put-swatch .ensures) in (
       more,
