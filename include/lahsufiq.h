@@ -14,9 +14,10 @@
  *  12  its length is not 7 + 12 x count, or the count is incomplete
  *  13  a list has too little room for the file or for the swatches
  * The first that applies, in the order sample 1, sample 2, weights, tolerance, file (10, 11, 12), deck
- * (6, 7), room. Sample 1 is the standard. Results come through the pointers; on a refusal each is 0, and
- * a list keeps its contents. No pointer may be null, not even that of a list of length 0, and what is
- * written may not overlap any other argument.
+ * (6, 7), room. A float is held to its limits at its exact value, and then rounded to the nearest whole
+ * number of 1/10,000, a half to the even one. Sample 1 is the standard. Results come through the
+ * pointers; on a refusal each is 0, and a list keeps its contents. No pointer may be null, not even that
+ * of a list of length 0, and what is written may not overlap any other argument.
  */
 #ifndef LAHSUFIQ_H
 #define LAHSUFIQ_H

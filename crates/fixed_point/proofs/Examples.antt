@@ -15,14 +15,31 @@ reading l a b = readingRefusal (record { l = float l; a = float a; b = float b }
 abbrev weights : ℕ → ℕ → ℕ → ℕ
 weights l c h = weightsRefusal (record { l = float l; c = float c; h = float h })
 
--- 0.03125 and -0.03125: 312.5 in ten-thousandths
-half : fixedOf (float 0x3d00_0000) ≡ pos 313
+-- 0.03125 and -0.03125, 312.5 in ten-thousandths: the even neighbour is the one nearer to zero
+half : (fixedOf (float 0x3d00_0000) ≡ pos 312) × (fixedOf (float 0xbd00_0000) ≡ negsuc 311)
 unfolding ofBits fixedOf fixedSize nearestOf halfOf
-half = refl
+half = (refl, refl)
 
-minus-half : fixedOf (float 0xbd00_0000) ≡ negsuc 312
+-- 0.09375 and -0.09375, 937.5 in ten-thousandths: it is the other one
+odd-half : (fixedOf (float 0x3dc0_0000) ≡ pos 938) × (fixedOf (float 0xbdc0_0000) ≡ negsuc 937)
 unfolding ofBits fixedOf fixedSize nearestOf halfOf
-minus-half = refl
+odd-half = (refl, refl)
+
+-- the floats that 0.00015, 0.00025 and 0.00035 are read as are no halves: 1.50000007, 2.50000012 and 3.49999988
+decimal-halves : (fixedSize (float 0x391d_4952) ≡ 2) × (fixedSize (float 0x3983_126f) ≡ 3) × (fixedSize (float 0x39b7_8034) ≡ 3)
+unfolding ofBits fixedSize nearestOf halfOf
+decimal-halves = (refl, refl, refl)
+
+-- the floats on either side of 0.03125 and of 0.09375
+beside-halves : (fixedSize (float 0x3cff_ffff) ≡ 312) × (fixedSize (float 0x3d00_0001) ≡ 313) × (fixedSize (float 0x3dbf_ffff) ≡ 937) ×
+    (fixedSize (float 0x3dc0_0001) ≡ 938)
+unfolding ofBits fixedSize nearestOf halfOf
+beside-halves = (refl, refl, refl, refl)
+
+-- a weight and a tolerance: 0.53125 and 99.96875, 5312.5 and 999687.5 in ten-thousandths
+other-halves : (fixedSize (float 0x3f08_0000) ≡ 5312) × (fixedSize (float 0x42c7_f000) ≡ 999688)
+unfolding ofBits fixedSize nearestOf halfOf
+other-halves = (refl, refl)
 
 -- -0 is 0, and accepted as L, a and b
 minus-zero : (fixedOf (float 0x8000_0000) ≡ pos 0) × (reading 0x8000_0000 0x8000_0000 0x8000_0000 ≡ 0)

@@ -7,9 +7,9 @@ use lib.IntN.{ℤ, pos}
 use lib.Ieee.{Float, nan, inf, fin, up, down}
 use Rattle.signed.specs.Value.{withSign}
 
--- what a half goes to, its whole part being q: away from zero
+-- what a half goes to, its whole part being q: the even one of q and q + 1
 unfoldable pub halfOf : ℕ → ℕ
-halfOf q = q + 1
+halfOf q = q + q % 2
 
 -- num / den to the nearest whole number: what is left over is below a half, a half or above it
 unfoldable pub nearestOf : ℕ → ℕ → ℕ

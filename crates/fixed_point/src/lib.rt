@@ -119,7 +119,7 @@ fn half(q: u64) -> u64
     requires { ⌜ q < 2560000 ⌝ }
     ensures { λ r. ⌜ r ≡ halfOf q ⌝ }
 {
-    q + 1 // away from zero
+    q + q % 2 // the even neighbour
 }
 
 // The size of x in halves of 1/10,000. The product is exact: a float has 24 binary digits, and

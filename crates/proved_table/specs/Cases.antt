@@ -98,8 +98,8 @@ Case = record { gives : List ℤ; says : List ℤ }
 
 unfoldable pub table : List Case
 table =
-    -- float 0.03125
-    record { gives = fixedOf (ofBits binary32 0x3d00_0000) ∷ []; says = pos 313 ∷ [] } ∷
+    -- float 0.03125, which is 312.5 in 1/10,000
+    record { gives = fixedOf (ofBits binary32 0x3d00_0000) ∷ []; says = pos 312 ∷ [] } ∷
     -- root of 0; of 3; of 2 × 10^18
     record {
       gives = pos (rootOf 0) ∷ pos (rootOf 3) ∷ pos (rootOf 2000000000000000000) ∷ [];

@@ -63,6 +63,12 @@ impl Exact {
         self.against(low).is_ge() && self.against(high).is_le()
     }
 
+    /// Whether the value lies exactly between two neighbouring whole numbers of 1/10,000, that is,
+    /// 20,000 times the value is an odd whole number. No number without binary places is such.
+    fn is_tie(self) -> bool {
+        self.shift > 0 && self.size > 0 && (20_000 * self.size).trailing_zeros() == self.shift
+    }
+
     /// The nearest whole number of 1/10,000. For values within limits only.
     pub fn grid(self) -> i128 {
         // past 2^-76 the value is far below half a unit
@@ -81,4 +87,9 @@ pub fn limited(x: f32, low: i32, high: i32) -> Option<i128> {
 
 pub fn is_finite(x: f32) -> bool {
     matches!(value(x), Value::Finite(_))
+}
+
+/// Whether a float lies exactly between two neighbouring whole numbers of 1/10,000.
+pub fn is_tie(x: f32) -> bool {
+    matches!(value(x), Value::Finite(v) if v.is_tie())
 }

@@ -13,8 +13,10 @@ pub mod tally;
 pub mod text;
 pub mod working;
 
-/// The nearest whole number to n / d, a half going away from zero (n is a size, without sign).
-/// The only place that decides about a half.
+/// The nearest whole number to n / d, a half going to the even neighbour (n is a size, without sign).
+/// The only place that decides about a half. No entry of the tables comes near one.
 pub fn nearest(n: u128, d: u128) -> u128 {
-    (2 * n + d) / (2 * d)
+    let (up, left) = ((2 * n + d) / (2 * d), (2 * n + d) % (2 * d));
+    // nothing left: n / d is up less a half
+    if left == 0 && up % 2 == 1 { up - 1 } else { up }
 }
