@@ -2,11 +2,10 @@
 -- definitions' text.
 -- Assumes nothing.
 use mathlib.Core.Path.{_≡_, refl, sym, ap, subst}
-use Prim.Native.Nat.{ℕ, zero, suc, _+_, _*_, _/_, _%_, _^_, _≤_, _<_, zero-le}
-use native.Mathlib.Nat.{le-trans, le-of-eq, le-of-lt, mul-assoc, mul-le-mul-left, mul-le-mul-right, lt-of-not-le}
-use native.Mathlib.Nat.{div-add-mod', le-div-iff-mul-le, eq-or-lt-of-le, mul-pos, zero-lt-suc}
+use Prim.Native.Nat.{ℕ, zero, suc, _+_, _*_, _^_, _≤_, _<_, zero-le}
+use native.Mathlib.Nat.{le-trans, le-of-eq, le-of-lt, mul-assoc, mul-le-mul-left, mul-le-mul-right}
+use native.Mathlib.Nat.{mul-pos, zero-lt-suc}
 use native.Mathlib.Omega.{arith}
-use native.Mathlib.Decide.{decLe}
 use mathlib.Core.Logic.{_⊎_, inl, inr}
 use mathlib.Core.Bool.{Bool, true, false, not, _&&_, _||_, cond}
 use lib.IntN.{ℤ, pos, negsuc, natAbs}
@@ -15,11 +14,12 @@ use lib.Ieee.{Float, nan, inf, fin, up, down, le, lt}
 use lib.Ieee.Fits.{and-l, and-r, up-pos, down-pos}
 use lib.Ieee.Scale.{finite}
 use lib.Ieee.Positive.{num, den}
-use borrow.Author.Tests.{lt-ltb, le-ltb, ltb-false}
+use borrow.Author.Tests.{lt-ltb, le-ltb}
 use Rattle.signed.specs.Value.{withSign}
 use Rattle.fixed_point.specs.Limits.{within, lightnessIn, opponentIn, weightIn, toleranceIn}
 use Rattle.fixed_point.specs.Inner.{AtMost}
-use Rattle.fixed_point.specs.Rounding.{halfOf, nearestOf, fixedSize, fixedOf}
+use Rattle.fixed_point.specs.Rounding.{fixedSize, fixedOf}
+use Rattle.fixed_point.proofs.NearestEven.{nearest-le, nearest-ge}
 use Rattle.fixed_point.specs.Refusals.{readingRefusal, weightsRefusal, toleranceRefusal}
 use Rattle.fixed_point.specs.Samples.{sampleOf, weightsOf}
 use Rattle.sample.specs.Inner.{SampleIn, WeightIn, WeightsIn}
@@ -27,67 +27,18 @@ use Rattle.fixed_point.specs.declared.Reading.{Reading}
 use Rattle.fixed_point.specs.declared.Weights.{Weights}
 
 -- ---- the rounding
-half-le : (q : ℕ) → halfOf q ≤ q + 1
-unfolding halfOf
-half-le q = omega arith
-
-half-ge : (q : ℕ) → q ≤ halfOf q
-unfolding halfOf
-half-ge q = omega arith
-
-choice-le : (s t : Bool) (q h k : ℕ) → q ≤ k → h ≤ q + 1 → (s ≡ false → q + 1 ≤ k) → cond s q (cond t h (q + 1)) ≤ k
-choice-le true t q h k a b f = a
-choice-le false true q h k a b f = le-trans b (f refl)
-choice-le false false q h k a b f = f refl
-
-choice-ge : (s t : Bool) (q h k : ℕ) → k ≤ q → q ≤ h → k ≤ cond s q (cond t h (q + 1))
-choice-ge true t q h k a b = a
-choice-ge false true q h k a b = le-trans a b
-choice-ge false false q h k a b = omega arith
-
-nearest-le : (n c k : ℕ) → 0 < c → n ≤ k * c → nearestOf n c ≤ k
-unfolding nearestOf
-nearest-le n c k C h = choice-le (ltb (2 * (n % c)) c) (eqb (2 * (n % c)) c) (n / c) (halfOf (n / c)) k most (half-le (n / c)) next
-  where
-    split : n / c * c + n % c ≡ n
-    split = div-add-mod' n c
-
-    most : n / c ≤ k
-    most = either (decLe (n / c) k)
-      where
-        either : Dec (n / c ≤ k) → n / c ≤ k
-        either (yes p) = p
-        either (no f) = absurd (too-much (n / c) c k (n % c) n C split h f)
-          where
-            too-much : (q c k r n : ℕ) → 0 < c → q * c + r ≡ n → n ≤ k * c → ¬ (q ≤ k) → ⊥
-            too-much q c k r n C e h f =
-                let g : suc k * c ≤ q * c = mul-le-mul-right c (lt-of-not-le f) in
-                omega arith
-
-    next : ltb (2 * (n % c)) c ≡ false → n / c + 1 ≤ k
-    next e = elim (eq-or-lt-of-le most) [ inl q ↦ absurd (none (n / c) c k (n % c) n C split h q (ltb-false _ _ e)) | inr l ↦ omega arith ]
-      where
-        none : (q c k r n : ℕ) → 0 < c → q * c + r ≡ n → n ≤ k * c → q ≡ k → c ≤ 2 * r → ⊥
-        none q c k r n C e h q-is l =
-            let g : q * c ≡ k * c = ap (λ (x : ℕ). x * c) q-is in
-            omega arith
-
-nearest-ge : (n c k : ℕ) → 0 < c → k * c ≤ n → k ≤ nearestOf n c
-unfolding nearestOf
-nearest-ge n c k C h = choice-ge (ltb (2 * (n % c)) c) (eqb (2 * (n % c)) c) (n / c) (halfOf (n / c)) k (le-div-iff-mul-le C .1 h) (half-ge (n / c))
-
 pub fixed-size-le : (n : ℕ) (x : Float) → AtMost n x → fixedSize x ≤ 10000 * n
 unfolding fixedSize
 fixed-size-le n nan h = absurd (h .is-finite)
 fixed-size-le n (inf s) h = absurd (h .is-finite)
-fixed-size-le n (fin s m e) h = nearest-le (10000 * (m * up e)) (down e) (10000 * n) (down-pos e)
+fixed-size-le n (fin s m e) h = nearest-le (10000 * (m * up e)) (down e) (down-pos e) (10000 * n)
     (le-trans (mul-le-mul-left 10000 (h .size)) (le-of-eq (sym (mul-assoc 10000 n (down e)))))
 
 fixed-size-ge : (n : ℕ) (x : Float) → T (finite x) → n * den x ≤ 10000 * num x → n ≤ fixedSize x
 unfolding fixedSize
 fixed-size-ge n nan t h = absurd t
 fixed-size-ge n (inf s) t h = absurd t
-fixed-size-ge n (fin s m e) t h = nearest-ge (10000 * (m * up e)) (down e) n (down-pos e) h
+fixed-size-ge n (fin s m e) t h = nearest-ge (10000 * (m * up e)) (down e) (down-pos e) n h
 
 -- ---- the sign: what rounds to 0 has none
 no-sign : (s t : Bool) (n : ℕ) → n ≡ 0 → withSign s n ≡ withSign t n

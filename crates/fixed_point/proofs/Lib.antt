@@ -3,5 +3,6 @@ mod Exactness
 mod Examples
 mod Flags
 mod Nearest
+mod NearestEven
 mod Sizes
 pub mod FixedLaws

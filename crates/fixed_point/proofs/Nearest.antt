@@ -1,14 +1,13 @@
 -- From a float that holds a number of halves to the nearest whole number: what cutting it and comparing it with what was cut say. Assumes nothing.
 use mathlib.Core.Path.{_≡_, refl, sym, ap, _∙_, subst}
 use Prim.Native.Nat.{ℕ, _+_, _-_, _*_, _/_, _%_, _^_, _≤_, _<_, min}
-use native.Mathlib.Nat.{le-trans, le-of-eq, le-of-lt, lt-of-lt-of-le, lt-of-not-le, mod-lt, mul-pos, mul-assoc}
-use native.Mathlib.Nat.{mul-right-comm, mul-le-mul-right, le-of-mul-le-mul-right, eq-of-mul-eq-mul-right, div-add-mod'}
-use native.Mathlib.Nat.{div-lt-iff-lt-mul}
+use native.Mathlib.Nat.{le-trans, le-of-eq, le-of-lt, lt-of-lt-of-le, mul-pos, mul-assoc, add-mul}
+use native.Mathlib.Nat.{mul-right-comm, mul-le-mul-right, le-of-mul-le-mul-right, eq-of-mul-eq-mul-right}
+use native.Mathlib.Nat.{div-lt-iff-lt-mul, div-mul-le-self, lt-div-mul-add}
 use native.Mathlib.Omega.{arith}
 use mathlib.Core.Bool.{Bool, true, false, _&&_, true≢false}
 use lib.IntN.{pos}
-use lib.Dec.{T, ltb, leb, eqb, lt→ltb, le→leb, lit≤}
-use lib.Arith.{digits-div}
+use lib.Dec.{T, lt→ltb, le→leb, lit≤}
 use lib.Ieee.{Float, nan, inf, fin, binary64, up, down, lt, eq, ofInt, toUnsigned, inFloat}
 use lib.Ieee.Fits.{down-pos}
 use lib.Ieee.Exact.{HasValue}
@@ -16,90 +15,35 @@ use lib.Ieee.Back.{round-whole}
 use lib.Ieee.Nearest.{div-same}
 use lib.Ieee.Positive.{num, den, den-pos}
 use lib.Ieee.Scale.{finite}
-use native.Mathlib.Decide.{decLe}
-use borrow.Author.Tests.{lt-ltb, le-ltb, eq-eqb, ne-eqb, eqb-true, eqb-false}
+use borrow.Author.Tests.{eqb-true, eqb-false}
 use Rattle.fixed_point.specs.Rounding.{halfOf, nearestOf, fixedSize}
 use Rattle.fixed_point.specs.Inner.{AtMost}
+use Rattle.fixed_point.proofs.NearestEven.{is-below, is-half, is-above, nearest-unique}
 
--- ---- the arithmetic: N / c to the nearest, from t, the whole part of 2 N / c
-module _ (N c : ℕ) (C : 0 < c) where
-  twice : N / c * c + N % c ≡ N
-  twice = div-add-mod' N c
+-- ---- the arithmetic: n / c to the nearest, from t, the whole part of 2 n / c
+module _ (n c : ℕ) (C : 0 < c) (t : ℕ) (e : t ≡ 2 * n / c) where
+  least : t * c ≤ 2 * n
+  least = subst (λ (k : ℕ). k * c ≤ 2 * n) (sym e) (div-mul-le-self (2 * n) c)
 
-  left-lt : N % c < c
-  left-lt = mod-lt N C
+  next : 2 * n < t * c + c
+  next = subst (λ (k : ℕ). 2 * n < k * c + c) (sym e) (lt-div-mul-add C)
 
-  below-half : 2 * (N % c) < c → 2 * N / c ≡ 2 * (N / c)
-  below-half h =
-      let e : 2 * N ≡ 2 * (N / c) * c + 2 * (N % c) = omega (arith, twice, mul-assoc 2 (N / c) c) in
-      ap (λ (x : ℕ). x / c) e ∙ digits-div (2 * (N / c)) h
+  halved : (r : ℕ) → t ≡ 2 * (t / 2) + r → t * c ≡ 2 * (t / 2 * c) + r * c
+  halved r p = ap (λ (k : ℕ). k * c) p ∙ omega (arith, add-mul (2 * (t / 2)) r c, mul-assoc 2 (t / 2) c)
 
-  above-half : c ≤ 2 * (N % c) → 2 * N / c ≡ 2 * (N / c) + 1
-  above-half h =
-      let e : 2 * N ≡ (2 * (N / c) + 1) * c + (2 * (N % c) - c) = omega (arith, twice, mul-assoc 2 (N / c) c) in
-      let l : 2 * (N % c) - c < c = omega (arith, left-lt) in
-      ap (λ (x : ℕ). x / c) e ∙ digits-div (2 * (N / c) + 1) l
+  odd : (t % 2 ≡ 0 → ⊥) → t * c ≡ 2 * (t / 2 * c) + c
+  odd p = omega (arith, halved 1 (omega arith))
 
-  is-below : 2 * N / c % 2 ≡ 0 → 2 * (N % c) < c
-  is-below h = either (decLe c (2 * (N % c)))
-    where
-      either : Dec (c ≤ 2 * (N % c)) → 2 * (N % c) < c
-      either (yes k) = absurd (odd (2 * N / c) (N / c) (above-half k) h)
-        where
-          odd : (t q : ℕ) → t ≡ 2 * q + 1 → t % 2 ≡ 0 → ⊥
-          odd t q e z = omega arith
-      either (no f) = lt-of-not-le f
+  pub nearest-even : t % 2 ≡ 0 → t / 2 ≡ nearestOf n c
+  nearest-even p =
+      let is : t * c ≡ 2 * (t / 2 * c) + 0 * c = halved 0 (omega arith) in
+      nearest-unique n c C (is-below n c C (t / 2) (omega (arith, least)) (omega (arith, next)))
 
-  not-below : (2 * N / c % 2 ≡ 0 → ⊥) → c ≤ 2 * (N % c)
-  not-below h = either (decLe c (2 * (N % c)))
-    where
-      either : Dec (c ≤ 2 * (N % c)) → c ≤ 2 * (N % c)
-      either (yes k) = k
-      either (no f) = absurd (h (even (2 * N / c) (N / c) (below-half (lt-of-not-le f))))
-        where
-          even : (t q : ℕ) → t ≡ 2 * q → t % 2 ≡ 0
-          even t q e = omega arith
+  pub nearest-half : (t % 2 ≡ 0 → ⊥) → 2 * n ≡ t * c → halfOf (t / 2) ≡ nearestOf n c
+  nearest-half p h = nearest-unique n c C (is-half n c C (t / 2) (h ∙ odd p))
 
-  -- the halves left over are none exactly at a half
-  exactly : c ≤ 2 * (N % c) → 2 * N ≡ 2 * N / c * c → 2 * (N % c) ≡ c
-  exactly k e =
-      let o : 2 * N / c * c ≡ (2 * (N / c) + 1) * c = ap (λ (x : ℕ). x * c) (above-half k) in
-      omega (arith, twice, o, mul-assoc 2 (N / c) c)
-
-  exactly-back : 2 * (N % c) ≡ c → 2 * N ≡ 2 * N / c * c
-  exactly-back e =
-      let o : 2 * N / c * c ≡ (2 * (N / c) + 1) * c = ap (λ (x : ℕ). x * c) (above-half (le-of-eq (sym e))) in
-      omega (arith, twice, o, mul-assoc 2 (N / c) c)
-
-  pub nearest-even : 2 * N / c % 2 ≡ 0 → 2 * N / c / 2 ≡ nearestOf N c
-  unfolding nearestOf
-  nearest-even h =
-      let t : ltb (2 * (N % c)) c ≡ true = lt-ltb _ _ (is-below h) in
-      let q : 2 * N / c / 2 ≡ N / c = half-even (2 * N / c) (N / c) (below-half (is-below h)) in
-      rw t q
-    where
-      half-even : (t q : ℕ) → t ≡ 2 * q → t / 2 ≡ q
-      half-even t q e = omega arith
-
-  half-odd : (2 * N / c % 2 ≡ 0 → ⊥) → 2 * N / c / 2 ≡ N / c
-  half-odd h = go (2 * N / c) (N / c) (above-half (not-below h))
-    where
-      go : (t q : ℕ) → t ≡ 2 * q + 1 → t / 2 ≡ q
-      go t q e = omega arith
-
-  pub nearest-half : (2 * N / c % 2 ≡ 0 → ⊥) → 2 * N ≡ 2 * N / c * c → halfOf (2 * N / c / 2) ≡ nearestOf N c
-  unfolding nearestOf
-  nearest-half h e =
-      let t : ltb (2 * (N % c)) c ≡ false = le-ltb _ _ (not-below h) in
-      let u : eqb (2 * (N % c)) c ≡ true = eq-eqb _ _ (exactly (not-below h) e) in
-      rw (t, u) (ap halfOf (half-odd h))
-
-  pub nearest-above : (2 * N / c % 2 ≡ 0 → ⊥) → (2 * N ≡ 2 * N / c * c → ⊥) → 2 * N / c / 2 + 1 ≡ nearestOf N c
-  unfolding nearestOf
-  nearest-above h e =
-      let t : ltb (2 * (N % c)) c ≡ false = le-ltb _ _ (not-below h) in
-      let u : eqb (2 * (N % c)) c ≡ false = ne-eqb _ _ (λ x. e (exactly-back x)) in
-      rw (t, u) (ap (λ (x : ℕ). x + 1) (half-odd h))
+  pub nearest-above : (t % 2 ≡ 0 → ⊥) → (2 * n ≡ t * c → ⊥) → t / 2 + 1 ≡ nearestOf n c
+  nearest-above p h = nearest-unique n c C (is-above n c C (t / 2) (omega (arith, least, odd p)) (omega (arith, next, odd p)))
 
 -- ---- the float w, which is a / c
 abbrev pub PartsIn : ℕ → ℕ → Type 0
@@ -219,25 +163,16 @@ size-is (inf s) t = absurd t
 size-is (fin s m e) t = refl
 
 module _ (x : Float) (h : AtMost 128 x) (t : ℕ) (e : t ≡ num x * 20000 / den x) where
-  halves-are : 2 * (10000 * num x) / den x ≡ t
-  halves-are = ap (λ (n : ℕ). n / den x) (sym (doubled (num x))) ∙ sym e
+  halves-are : t ≡ 2 * (10000 * num x) / den x
+  halves-are = e ∙ ap (λ (n : ℕ). n / den x) (doubled (num x))
 
   pub size-even : t % 2 ≡ 0 → t / 2 ≡ fixedSize x
-  size-even p = subst (λ (n : ℕ). n / 2 ≡ fixedSize x) halves-are
-      (nearest-even (10000 * num x) (den x) (den-pos x) (subst (λ (n : ℕ). n % 2 ≡ 0) (sym halves-are) p) ∙ sym
-      (size-is x (h .is-finite)))
-
-  odd-there : (t % 2 ≡ 0 → ⊥) → 2 * (10000 * num x) / den x % 2 ≡ 0 → ⊥
-  odd-there p z = p (subst (λ (n : ℕ). n % 2 ≡ 0) halves-are z)
+  size-even p = nearest-even (10000 * num x) (den x) (den-pos x) t halves-are p ∙ sym (size-is x (h .is-finite))
 
   pub size-half : (t % 2 ≡ 0 → ⊥) → num x * 20000 ≡ t * den x → halfOf (t / 2) ≡ fixedSize x
   size-half p q =
-      subst (λ (n : ℕ). halfOf (n / 2) ≡ fixedSize x) halves-are
-      (nearest-half (10000 * num x) (den x) (den-pos x) (odd-there p)
-      (sym (doubled (num x)) ∙ q ∙ ap (λ (n : ℕ). n * den x) (sym halves-are)) ∙ sym (size-is x (h .is-finite)))
+      nearest-half (10000 * num x) (den x) (den-pos x) t halves-are p (sym (doubled (num x)) ∙ q) ∙ sym (size-is x (h .is-finite))
 
   pub size-above : (t % 2 ≡ 0 → ⊥) → (num x * 20000 ≡ t * den x → ⊥) → t / 2 + 1 ≡ fixedSize x
   size-above p q =
-      subst (λ (n : ℕ). n / 2 + 1 ≡ fixedSize x) halves-are
-      (nearest-above (10000 * num x) (den x) (den-pos x) (odd-there p)
-      (λ z. q (doubled (num x) ∙ z ∙ ap (λ (n : ℕ). n * den x) halves-are)) ∙ sym (size-is x (h .is-finite)))
+      nearest-above (10000 * num x) (den x) (den-pos x) t halves-are p (λ z. q (doubled (num x) ∙ z)) ∙ sym (size-is x (h .is-finite))
