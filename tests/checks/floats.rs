@@ -3,7 +3,7 @@
 
 use interface as lq;
 use reference::calls::{self, double};
-use reference::cases::float;
+use reference::cases::{float, ties};
 use reference::random::Random;
 use reference::tally::Tally;
 
@@ -130,7 +130,7 @@ fn compare(t: &mut Tally, argument: Argument, floats: impl Iterator<Item = u32>)
     }
 }
 
-/// Floats at which something could change: limits, halves, ends of the exponents, and their
+/// Floats at which something could change: limits, ties, ends of the exponents, and their
 /// neighbours, with both signs.
 fn edges() -> Vec<u32> {
     let mut edges = Vec::new();
@@ -143,9 +143,9 @@ fn edges() -> Vec<u32> {
     for limit in [0.0, 0.5, 1.0, 10.0, 100.0, 128.0, f32::MIN_POSITIVE, f32::MAX, f32::INFINITY, f32::NAN] {
         around(limit, 300);
     }
-    // the floats that lie exactly between two grid numbers are the odd multiples of 1/32
-    for odd in (1..=128 * 32 + 1).step_by(2) {
-        around(odd as f32 / 32.0, 2);
+    // and the first tie past every limit
+    for tie in ties().chain([128.03125]) {
+        around(tie, 2);
     }
     for exponent in 0..256u32 {
         for fraction in [0, 1, 0x3f_ffff, 0x40_0000, 0x7f_ffff] {

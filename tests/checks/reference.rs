@@ -294,11 +294,16 @@ fn halving(t: &mut Tally) {
     t.report("tenths of a degree against a scan, roots against isqrt");
 }
 
-/// The reading of bits against doubles, in which a float times 10,000 is exact.
+/// The reading of bits against doubles, in which a float times 10,000 is exact: random floats, and
+/// all that lie exactly between two whole numbers of 1/10,000.
 fn floats(t: &mut Tally) {
     let mut r = Random::new(3);
-    for i in 0..2_000_000u32 {
-        let bits = if i % 2 == 0 { r.next() as u32 } else { 0x3c00_0000 + (r.next() as u32 & 0x87ff_ffff) };
+    let random = (0..2_000_000).map(|i| {
+        let bits = r.next() as u32;
+        if i % 2 == 0 { bits } else { 0x3c00_0000 + (bits & 0x87ff_ffff) }
+    });
+    let ties = cases::ties().flat_map(|x| [x, -x]).map(f32::to_bits);
+    for bits in random.chain(ties) {
         let x = f32::from_bits(bits);
         let wide = f64::from(x);
         for (low, high) in [(0, 200), (-256, 256), (1, 20)] {

@@ -50,13 +50,12 @@ fn within(arguments: Whole) -> bool {
     is_within(difference(arguments), arguments[TOLERANCE])
 }
 
-/// All such floats of at most 128, without those below zero: every float is looked at.
-fn ties(t: &mut Tally) -> Vec<f32> {
-    let ties: Vec<f32> = (0..=128f32.to_bits()).map(f32::from_bits).filter(|&x| is_tie(x)).collect();
-    let odd_parts: Vec<f32> = (1..128 * 32).step_by(2).map(|n| n as f32 / 32.0).collect();
-    t.same("the floats between two whole numbers of 1/10,000 are the odd multiples of 1/32", &ties, &odd_parts);
-    println!("ties: {} of the floats from 0 to 128 lie between two whole numbers of 1/10,000", ties.len());
-    ties
+/// All such floats from 0 to 128: every float is looked at.
+fn all_ties(t: &mut Tally) -> Vec<f32> {
+    let all: Vec<f32> = (0..=128f32.to_bits()).map(f32::from_bits).filter(|&x| is_tie(x)).collect();
+    t.same("the floats that are ties", &all, &cases::ties().collect());
+    println!("ties: {} of the floats from 0 to 128 lie exactly between two whole numbers of 1/10,000", all.len());
+    all
 }
 
 /// The even and the odd one of the two whole numbers of 1/10,000 around a tie.
@@ -124,7 +123,7 @@ fn compare(t: &mut Tally, argument: usize, tie: f32, r: &mut Random) {
 fn main() {
     let mut t = Tally::new("ties");
     let mut r = Random::new(12);
-    let ties = ties(&mut t);
+    let ties = all_ties(&mut t);
     for (argument, (name, low, high)) in ARGUMENTS.into_iter().enumerate() {
         let inside: Vec<f32> = ties.iter().flat_map(|&x| [x, -x]).filter(|&x| low <= x && x <= high).collect();
         for &tie in &inside {

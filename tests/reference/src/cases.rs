@@ -9,6 +9,12 @@ pub fn float(grid: i128) -> f32 {
     (grid as f64 / 10_000.0) as f32
 }
 
+/// The floats from 0 to 128 that lie exactly between two whole numbers of 1/10,000: the odd multiples
+/// of 1/32. checks/ties.rs holds all floats against this.
+pub fn ties() -> impl Iterator<Item = f32> {
+    (1..128 * 32).step_by(2).map(|n| n as f32 / 32.0)
+}
+
 pub fn reading(s: Lab) -> Reading {
     [s.l, s.a, s.b].map(float)
 }
