@@ -143,7 +143,7 @@ fn edges() -> Vec<u32> {
     for limit in [0.0, 0.5, 1.0, 10.0, 100.0, 128.0, f32::MIN_POSITIVE, f32::MAX, f32::INFINITY, f32::NAN] {
         around(limit, 300);
     }
-    // and the first tie past every limit
+    // all ties, and the first one past every limit
     for tie in ties().chain([128.03125]) {
         around(tie, 2);
     }
