@@ -1,4 +1,5 @@
--- `WritingLaws` and `NumberLaws` are for callers too.
+-- `WritingLaws`, `NumberLaws` and `PartsLaws` are for callers too.
 pub mod WritingLaws
 pub mod NumberLaws
+pub mod PartsLaws
 pub mod Examples

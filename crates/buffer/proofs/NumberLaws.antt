@@ -167,6 +167,13 @@ same-end bytes text i h =
     let shorter : length (take (length text) bytes) ≤ i = simp length-take (omega arith) in
     ap₂ same (drop-of-length-le (take (length text) bytes) shorter) (drop-of-length-le text h) ∙ same-refl []
 
+pub same-length : (xs ys : List ℕ) → (length xs ≡ length ys → ⊥) → same xs ys ≡ false
+unfolding same
+same-length [] [] h = absurd (h refl)
+same-length [] (y ∷ ys) h = refl
+same-length (x ∷ xs) [] h = refl
+same-length (x ∷ xs) (y ∷ ys) h = ap (λ t. eqb x y && t) (same-length xs ys (λ e. h (ap suc e))) ∙ and-false (eqb x y)
+
 pub same-is : (xs ys : List ℕ) → same xs ys ≡ true → xs ≡ ys
 unfolding same
 same-is [] [] e = refl

@@ -7,6 +7,8 @@ ghost use lib.ListN.{length, take};
 ghost use Rattle.buffer.specs.Numbers.{bytesOf, unsignedOf, signedBytes, signedOf, field, same};
 ghost use Rattle.buffer.specs.Writing.{Written};
 
+pub mod parts;
+
 // ---- writing at a place; each function returns the place after what it wrote
 
 // The byte b.
@@ -113,4 +115,14 @@ pub fn starts_with(bytes: &[u8], text: &[u8]) -> bool
         i += 1;
     }
     true
+}
+
+// Whether two texts are the same.
+pub fn equal(s: &[u8], t: &[u8]) -> bool
+    ensures { λ r. ⌜ r ≡ same (now (s .entry)) (now (t .entry)) ⌝ }
+{
+    if s.len() == t.len() {
+        return starts_with(s, t);
+    }
+    false
 }

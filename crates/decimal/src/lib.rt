@@ -12,10 +12,10 @@ ghost use Rattle.decimal.specs.Inner.{digitCount, StartsAt, DigitAt, Dig
 use signed::Int;
 
 // A run of digits: the number that they make, how many they are, and where the bytes go on.
-struct Digits {
-    value: u64,
-    count: usize,
-    at: usize,
+pub struct Digits {
+    pub value: u64,
+    pub count: usize,
+    pub at: usize,
 }
 
 // A decimal in 1/10,000, and where the bytes go on.
@@ -60,7 +60,7 @@ fn digit_at(s: &[u8], at: usize) -> u64
 }
 
 // The digits from a place on, at most `most` of them.
-fn read_digits(s: &[u8], at: usize, most: usize) -> Digits
+pub fn read_digits(s: &[u8], at: usize, most: usize) -> Digits
     requires { ⌜ most ≤ 19 ⌝ }
     ensures { λ r. ⌜ DigitsRead (now (s .entry)) most (runOf most (drop at (now (s .entry)))) r ⌝ }
 {

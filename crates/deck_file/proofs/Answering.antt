@@ -25,28 +25,28 @@ use Rattle.deck_file.proofs.Swatches.{ap₃}
 use Rattle.deck_file.proofs.RoundTrip.{Kept, file-of-deck, deck-of-file, form-formed, file-parts, columns-read}
 use Rattle.deck_file.proofs.Refusing.{write-accepts, read-accepts}
 
--- ---- a refusal r, which is k
+-- ---- a refusal r, which is k: these laws hold of every answer that is a `Transfer`
 
 by-refusal : (P : ℕ → Type 0) (k : ℕ) → (k ≡ 0 → ⊥) → ((j : ℕ) → P (suc j)) → P k
 by-refusal P zero h f = absurd (h refl)
 by-refusal P (suc k) h f = f k
 
 module _ {r k : ℕ} (e : r ≡ k) (h : r ≡ 0 → ⊥) where
-  refused-answer : (n : ℕ) → Refused r ≡ transferOf k n
+  pub refused-answer : (n : ℕ) → Refused r ≡ transferOf k n
   unfolding transferOf
   refused-answer n = ap Refused e ∙ by-refusal (λ j. Refused j ≡ transferOf j n) k (λ z. h (e ∙ z)) (λ j. refl)
 
-  refused-contents : {A : Type 0} (new old : List A) → old ≡ contentsOf k new old
+  pub refused-contents : {A : Type 0} (new old : List A) → old ≡ contentsOf k new old
   unfolding contentsOf
   refused-contents new old = by-refusal (λ j. old ≡ contentsOf j new old) k (λ z. h (e ∙ z)) (λ j. refl)
 
 -- ---- no refusal
 
-done-answer : {k m n : ℕ} → k ≡ 0 → m ≡ n → Done m ≡ transferOf k n
+pub done-answer : {k m n : ℕ} → k ≡ 0 → m ≡ n → Done m ≡ transferOf k n
 unfolding transferOf
 done-answer {n = n} z e = ap Done e ∙ ap (λ j. transferOf j n) (sym z)
 
-done-contents : {A : Type 0} (new old : List A) {k n : ℕ} {last : List A} → k ≡ 0 → length new ≡ n
+pub done-contents : {A : Type 0} (new old : List A) {k n : ℕ} {last : List A} → k ≡ 0 → length new ≡ n
     → last ≡ new ++ drop n old → last ≡ contentsOf k new old
 unfolding contentsOf
 done-contents new old z e h =
@@ -54,12 +54,12 @@ done-contents new old z e h =
 
 -- ---- what each answer and its contents say
 
-number-is : (k n : ℕ) → transferNumber (transferOf k n) ≡ k
+pub number-is : (k n : ℕ) → transferNumber (transferOf k n) ≡ k
 unfolding transferOf
 number-is zero n = refl
 number-is (suc k) n = refl
 
-contents-kept : {A : Type 0} (k n : ℕ) (new old : List A) → length new ≡ n
+pub contents-kept : {A : Type 0} (k n : ℕ) (new old : List A) → length new ≡ n
     → drop (transferSize (transferOf k n)) (contentsOf k new old) ≡ drop (transferSize (transferOf k n)) old
 unfolding transferOf contentsOf
 contents-kept zero n new old e = drop-at new (drop (length new) old) n e ∙ ap (λ m. drop m old) e

@@ -1,4 +1,4 @@
--- `RoundTrip` is for callers; the others are for the proofs of this crate's functions.
+-- `RoundTrip`, and of `Answering` the laws of every `Transfer`, are for callers; the others are for the proofs of this crate's functions.
 pub mod RoundTrip
 pub mod Swatches
 pub mod Refusing

@@ -41,7 +41,7 @@ pub enum Transfer {
 }
 
 // Refusal 13 where there is not room enough, or 0.
-fn room_refusal(enough: bool) -> u8
+pub fn room_refusal(enough: bool) -> u8
     ensures { λ r. ⌜ r ≡ roomRefusal enough ⌝ }
 {
     if enough { 0 } else { 13 }

@@ -1,0 +1,115 @@
+-- The swatches of a text that is not refused make a valid deck, in the order of their lightness. Assumes nothing.
+use mathlib.Core.Path.{_≡_, refl, sym, ap, ap₂, subst, _∙_}
+use mathlib.Core.Bool.{Bool, true, false, _&&_, cond, and-eq-true-iff}
+use mathlib.Core.List.{List, [], _∷_, map}
+use Prim.Native.Nat.{ℕ, zero, suc, _≤_, _<_}
+use native.Mathlib.Nat.{not-suc-le-zero, le-of-suc-le-suc}
+use native.Mathlib.Omega.{arith}
+use lib.Dec.{leb, eqb}
+use lib.IntN.{ℤ, pos, natAbs}
+use lib.Signed.{leZ}
+use lib.ListN.{length, getD, length-map, List·getD-map}
+use borrow.Author.Tests.{le-leb, leb-true, eqb-true}
+use Rattle.places.specs.Places.{at, every, rising}
+use Rattle.places.proofs.PlacesLaws.{every-of}
+use Rattle.sorting.specs.Order.{stableOrder, IsStableOrder}
+use Rattle.sorting.proofs.OrderLaws.{order-is}
+use Rattle.sample.specs.Sample.{Colour, colourRefusal, colourSample}
+use Rattle.sample.proofs.RefusalLaws.{none-of}
+use Rattle.sample.proofs.SampleLaws.{accepted-lightness}
+use Rattle.deck.specs.Deck.{mostSwatches, columnsAt, swatchesIn, lightnessRises, deckRefusal}
+use Rattle.deck.proofs.DeckLaws.{sizes-in, refusal-is}
+use Rattle.lab_text.specs.Text.{all, colourIn, isWithin, rowsOf, sizeRefusal, limitsRefusal, textRefusal}
+use Rattle.lab_text.specs.Text.{swatchAt, lightnessAt, byLightness, swatchesOf}
+use Rattle.lab_text.specs.Imports.{lightnesses, greenReds, blueYellows, deckOf, InDeckOrder}
+use Rattle.lab_text.specs.declared.Swatch.{Swatch}
+use Rattle.lab_text.proofs.ReadLaws.{none-true}
+
+-- ---- lists
+
+module _ {A B : Type 0} (f : A → B) where
+  map-at : (xs : List A) (k : ℕ) (d : B) (e : A) → k < length xs → getD (map f xs) k d ≡ f (getD xs k e)
+  map-at [] k d e h = absurd (not-suc-le-zero h)
+  map-at (x ∷ xs) zero d e h = refl
+  map-at (x ∷ xs) (suc k) d e h = map-at xs k d e (le-of-suc-le-suc h)
+
+all-at : (f : Swatch → Bool) (ss : List Swatch) (k : ℕ) → all f ss ≡ true → k < length ss → f (swatchAt ss k) ≡ true
+unfolding all
+all-at f [] k e h = absurd (not-suc-le-zero h)
+all-at f (s ∷ ss) zero e h = and-eq-true-iff (f s) (all f ss) .0 e .0
+all-at f (s ∷ ss) (suc k) e h = all-at f ss k (and-eq-true-iff (f s) (all f ss) .0 e .1) (le-of-suc-le-suc h)
+
+-- ---- the deck of some swatches
+
+pub deck-colour : (ss : List Swatch) (k : ℕ) → deckOf ss .colour k ≡ colourIn (swatchAt ss k)
+unfolding columnsAt
+deck-colour ss k =
+    λ i. record {
+      l = List·getD-map (λ (s : Swatch). s .l) ss k (swatchAt [] 0) i;
+      a = List·getD-map (λ (s : Swatch). s .a) ss k (swatchAt [] 0) i;
+      b = List·getD-map (λ (s : Swatch). s .b) ss k (swatchAt [] 0) i;
+    }
+
+module _ (rows : List Swatch) (most : length rows ≤ mostSwatches) (within : all isWithin rows ≡ true) where
+  abbrev n : ℕ
+  n = length rows
+
+  abbrev order : List ℕ
+  order = stableOrder (lightnessAt rows) n
+
+  abbrev ss : List Swatch
+  ss = byLightness rows
+
+  stands : IsStableOrder (lightnessAt rows) n order
+  stands = order-is (lightnessAt rows) n
+
+  size : length ss ≡ n
+  unfolding byLightness
+  size = length-map order (swatchAt rows) ∙ stands .size
+
+  -- what stands at a place is a row, within the limits
+  swatch-is : (k : ℕ) → k < n → deckOf ss .colour k ≡ colourIn (swatchAt rows (getD order k 0))
+  unfolding byLightness
+  swatch-is k h = deck-colour ss k ∙ ap colourIn (map-at (swatchAt rows) order k (swatchAt [] 0) 0 (omega (arith, stands .size)))
+
+  row-within : (k : ℕ) → k < n → colourRefusal (colourIn (swatchAt rows (getD order k 0))) ≡ 0
+  row-within k h = eqb-true _ 0 (all-at isWithin rows (getD order k 0) within (stands .inside k h))
+
+  lightness-is : (k : ℕ) → k < n → deckOf ss .colour k .l ≡ pos (lightnessAt rows (getD order k 0))
+  unfolding colourSample
+  lightness-is k h = ap (λ (c : Colour). c .l) (swatch-is k h) ∙ accepted-lightness _ (row-within k h)
+
+  rises-at : (i j : ℕ) → i < j → j < n → leZ (deckOf ss .colour i .l) (deckOf ss .colour j .l) ≡ true
+  rises-at i j h l =
+      ap₂ leZ (lightness-is i (omega arith)) (lightness-is j l) ∙ le-leb _ _ (stands .rises i j h l)
+
+  count-is : length (lightnesses ss) ≡ n
+  count-is = length-map ss (λ (s : Swatch). s .l) ∙ size
+
+  pub sorted-valid : deckRefusal (deckOf ss) ≡ 0
+  unfolding swatchesIn lightnessRises rising
+  sorted-valid =
+      let a-is = length-map ss (λ (s : Swatch). s .a) ∙ sym (length-map ss (λ (s : Swatch). s .l)) in
+      let b-is = length-map ss (λ (s : Swatch). s .b) ∙ sym (length-map ss (λ (s : Swatch). s .l)) in
+      let sized = sizes-in (lightnesses ss) (greenReds ss) (blueYellows ss)
+      (record { a-is = a-is; b-is = b-is; most = omega (arith, count-is) }) in
+      let inside = every-of (λ k. eqb (colourRefusal (deckOf ss .colour k)) 0) (length (lightnesses ss))
+      (λ k h. let l : k < n = omega (arith, count-is) in
+      ap (λ c. eqb (colourRefusal c) 0) (swatch-is k l) ∙ ap (λ m. eqb m 0) (row-within k l)) in
+      let rises = every-of (λ j. every (λ i. leZ (deckOf ss .colour i .l) (deckOf ss .colour j .l)) j) (length (lightnesses ss))
+      (λ j h. every-of (λ i. leZ (deckOf ss .colour i .l) (deckOf ss .colour j .l)) j
+      (λ i l. rises-at i j l (omega (arith, count-is)))) in
+      sym (refusal-is (deckOf ss) true true true sized inside rises)
+
+-- ---- a text that is not refused
+
+pub text-valid : (text : List ℕ) → textRefusal text ≡ 0 → deckRefusal (deckOf (swatchesOf text)) ≡ 0
+unfolding textRefusal sizeRefusal limitsRefusal swatchesOf
+text-valid text e =
+    let few = none-of _ _ (none-of _ _ (none-of _ _ (none-of _ _ e .1) .1) .1) in
+    let ok = none-of _ _ (few .1) in
+    sorted-valid (rowsOf text) (leb-true _ _ (none-true _ (λ z. absurd (omega arith)) (few .0)))
+    (none-true _ (λ z. absurd (omega arith)) (ok .0))
+
+pub text-ordered : (text : List ℕ) → InDeckOrder text
+text-ordered text = order-is (lightnessAt (rowsOf text)) (length (rowsOf text))

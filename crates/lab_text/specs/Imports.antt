@@ -1,0 +1,92 @@
+-- What an import to lent columns promises.
+use mathlib.Core.Path.{_≡_}
+use mathlib.Core.Bool.{_&&_}
+use mathlib.Core.List.{List, [], _∷_, map}
+use Prim.Native.Nat.{ℕ}
+use lib.Dec.{leb}
+use lib.IntN.{ℤ}
+use lib.ListN.{length, take, drop}
+use Rattle.sorting.specs.Order.{stableOrder, IsStableOrder}
+use Rattle.sample.specs.Refusals.{firstRefusal}
+use Rattle.deck.specs.Deck.{Deck, columns, deckRefusal}
+use Rattle.deck_file.specs.Refusals.{roomRefusal}
+use Rattle.deck_file.specs.Transfers.{transferOf, transferNumber, transferSize, contentsOf}
+use Rattle.deck_file.specs.declared.Transfer.{Transfer}
+use Rattle.lab_text.specs.Text.{rowsOf, textRefusal, lightnessAt, swatchesOf}
+use Rattle.lab_text.specs.declared.Swatch.{Swatch}
+
+-- ---- swatches and their columns
+
+abbrev pub codes : List Swatch → List ℕ
+codes ss = map (λ (s : Swatch). s .code) ss
+
+abbrev pub lightnesses : List Swatch → List ℤ
+lightnesses ss = map (λ (s : Swatch). s .l) ss
+
+abbrev pub greenReds : List Swatch → List ℤ
+greenReds ss = map (λ (s : Swatch). s .a) ss
+
+abbrev pub blueYellows : List Swatch → List ℤ
+blueYellows ss = map (λ (s : Swatch). s .b) ss
+
+-- the deck that they make: that of their columns
+abbrev pub deckOf : List Swatch → Deck
+deckOf ss = columns (lightnesses ss) (greenReds ss) (blueYellows ss)
+
+-- the rows in the order of the deck: a permutation, lightness never falls, rows of equal lightness in their old order
+abbrev pub InDeckOrder : List ℕ → Type 0
+InDeckOrder text =
+    let rows = rowsOf text in
+    IsStableOrder (lightnessAt rows) (length rows) (stableOrder (lightnessAt rows) (length rows))
+
+-- ---- lent columns
+
+-- four columns that were lent
+pub record Columns : Type 0 where
+  pub code : List ℕ
+  pub l : List ℤ
+  pub a : List ℤ
+  pub b : List ℤ
+
+abbrev pub lent : List ℕ → List ℤ → List ℤ → List ℤ → Columns
+lent code l a b = record { code = code; l = l; a = a; b = b }
+
+-- 13 comes last: each column needs room of its own
+unfoldable pub importRefusal : List ℕ → Columns → ℕ
+importRefusal text old =
+    let n = length (swatchesOf text) in
+    let room = leb n (length (old .code)) && (leb n (length (old .l)) && (leb n (length (old .a)) && leb n (length (old .b)))) in
+    firstRefusal (textRefusal text ∷ roomRefusal room ∷ [])
+
+abbrev pub importAnswer : List ℕ → Columns → Transfer
+importAnswer text old = transferOf (importRefusal text old) (length (swatchesOf text))
+
+-- the columns of some swatches, in front of what the lent ones held
+unfoldable pub columnsAfter : ℕ → List Swatch → Columns → Columns
+columnsAfter refusal ss old =
+    record {
+      code = contentsOf refusal (codes ss) (old .code);
+      l = contentsOf refusal (lightnesses ss) (old .l);
+      a = contentsOf refusal (greenReds ss) (old .a);
+      b = contentsOf refusal (blueYellows ss) (old .b);
+    }
+
+-- the deck that the first n entries make, and the entries past them
+abbrev pub front : ℕ → Columns → Deck
+front n c = columns (take n (c .l)) (take n (c .a)) (take n (c .b))
+
+abbrev pub rest : ℕ → Columns → Columns
+rest n c = lent (drop n (c .code)) (drop n (c .l)) (drop n (c .a)) (drop n (c .b))
+
+-- of a text, and the caller's columns before and after
+pub record Imports (text : List ℕ) (old new : Columns) (r : Transfer) : Type 0 where
+  -- for every call, the answer and the columns
+  pub answer : r ≡ importAnswer text old
+  pub contents : new ≡ columnsAfter (importRefusal text old) (swatchesOf text) old
+  -- the refusal's number, the first that applies of 14, 15, 16, 6, 7 and 13
+  pub number : transferNumber r ≡ importRefusal text old
+  -- from the count that is answered on, which on a refusal is 0, the columns are as they were
+  pub kept : rest (transferSize r) new ≡ rest (transferSize r) old
+  -- what was imported is a deck that no search refuses, its rows in order
+  pub valid : importRefusal text old ≡ 0 → deckRefusal (front (transferSize r) new) ≡ 0
+  pub ordered : InDeckOrder text

@@ -1,0 +1,153 @@
+// The colour lab's text, of CGATS form: what is refused of it, and the swatches that it lists, put in
+// rising lightness. specs/Text.antt has the form line by line.
+ghost use mathlib.Core.Path.{_≡_};
+ghost use mathlib.Core.List.{_++_};
+ghost use Prim.Native.Nat.{_≤_};
+ghost use lib.ListN.{length, take, drop};
+ghost use Rattle.deck.specs.Deck.{mostSwatches};
+ghost use Rattle.lab_text.specs.Imports.{codes, lightnesses, greenReds, blueYellows, lent, Imports};
+ghost use Rattle.lab_text.specs.Inner.{rowsRefusal, IsChecked, IsLabDeck};
+
+mod fields;
+mod head;
+mod rows;
+mod sorted;
+
+use deck_file::Transfer;
+use rows::Table;
+
+// A swatch as the lab lists it: its number, and L, a and b in 1/10,000.
+pub struct Swatch {
+    pub code: u32,
+    pub l: i32,
+    pub a: i32,
+    pub b: i32,
+}
+
+// The refusal of a text, or 0, and where there is none the number of its swatches and these, in
+// rising lightness.
+pub struct LabDeck {
+    pub refusal: u8,
+    pub count: usize,
+    pub swatches: [Swatch; deck::MOST_SWATCHES],
+}
+
+// The first that applies of 15, 16, 6 and 7, or 0.
+fn rows_refusal(right: bool, count: usize, sets: usize, within: bool) -> u8
+    ensures { λ r. ⌜ r ≡ rowsRefusal right count sets within ⌝ }
+{
+    if right {
+        if count == sets {
+            if count <= deck::MOST_SWATCHES {
+                if within {
+                    return 0;
+                }
+                return 7;
+            }
+            return 6;
+        }
+        return 16;
+    }
+    15
+}
+
+// A text that is refused.
+fn refused(refusal: u8) -> LabDeck
+    ensures { λ r. ⌜ (r .refusal ≡ refusal) × (r .count ≡ 0) × (length (r .swatches) ≡ mostSwatches) ⌝ }
+{
+    let swatches = rows::no_swatches();
+    LabDeck {
+        refusal,
+        count: 0,
+        swatches,
+    }
+}
+
+// The deck of a text whose first five lines are right, of which the rows were read.
+fn checked(sets: usize, t: Table) -> LabDeck
+    requires { ⌜ length (t .swatches) ≡ mostSwatches ⌝ }
+    ensures { λ r. ⌜ IsChecked sets t r ⌝ }
+{
+    if t.ended {
+        let refusal = rows_refusal(t.right, t.count, sets, t.within);
+        if refusal == 0 {
+            let rows = t.swatches;
+            let swatches = sorted::by_lightness(rows, t.count);
+            return LabDeck {
+                refusal: 0,
+                count: t.count,
+                swatches,
+            };
+        }
+        return refused(refusal);
+    }
+    refused(14)
+}
+
+// The deck of a text.
+pub fn read(text: &[u8]) -> LabDeck
+    ensures { λ r. ⌜ IsLabDeck (now (text .entry)) r ⌝ }
+{
+    let head = head::read_head(text);
+    if head.right {
+        let t = rows::read_rows(text, head.rows, head.order);
+        return checked(head.sets, t);
+    }
+    refused(14)
+}
+
+// Writes the first n swatches to the fronts of four columns.
+fn put_columns(
+    swatches: [Swatch; deck::MOST_SWATCHES],
+    n: usize,
+    code: &mut [u32],
+    l: &mut [i32],
+    a: &mut [i32],
+    b: &mut [i32],
+)
+    requires { ⌜ (length swatches ≡ mostSwatches) × (n ≤ mostSwatches) ⌝ }
+    requires { ⌜ (n ≤ length (now code)) × ((n ≤ length (now l)) × ((n ≤ length (now a)) × (n ≤ length (now b)))) ⌝ }
+    ensures code { λ _. ⌜ now (code .exit) ≡ codes (take n swatches) ++ drop n (now (code .entry)) ⌝ }
+    ensures l { λ _. ⌜ now (l .exit) ≡ lightnesses (take n swatches) ++ drop n (now (l .entry)) ⌝ }
+    ensures a { λ _. ⌜ now (a .exit) ≡ greenReds (take n swatches) ++ drop n (now (a .entry)) ⌝ }
+    ensures b { λ _. ⌜ now (b .exit) ≡ blueYellows (take n swatches) ++ drop n (now (b .entry)) ⌝ }
+{
+    let mut k = 0;
+    while k < n {
+        let s = swatches[k];
+        let lightness = s.l;
+        let green_red = s.a;
+        let blue_yellow = s.b;
+        code[k] = s.code;
+        l[k] = lightness;
+        a[k] = green_red;
+        b[k] = blue_yellow;
+        k += 1;
+    }
+}
+
+// Imports the lab's text to the fronts of the caller's columns. `Imports` says all, for every call.
+pub fn import(
+    text: &[u8],
+    code: &mut [u32],
+    l: &mut [i32],
+    a: &mut [i32],
+    b: &mut [i32],
+) -> Transfer
+    ensures { λ r.
+        let old = lent (now (code .entry)) (now (l .entry)) (now (a .entry)) (now (b .entry)) in
+        let new = lent (now (code .exit)) (now (l .exit)) (now (a .exit)) (now (b .exit)) in
+        ⌜ Imports (now (text .entry)) old new r ⌝ }
+    ensures text { λ _. ⌜ now (text .exit) ≡ now (text .entry) ⌝ }
+{
+    let d = read(text);
+    let n = d.count;
+    let room = (n <= code.len()) & ((n <= l.len()) & ((n <= a.len()) & (n <= b.len())));
+    let refusal = sample::first_of(d.refusal, deck_file::room_refusal(room));
+    if refusal != 0 {
+        return Transfer::Refused(refusal);
+    }
+    let swatches = d.swatches;
+    put_columns(swatches, n, code, l, a, b);
+    Transfer::Done(n)
+}
