@@ -75,6 +75,27 @@ uint32_t lq_deck_write(const int32_t *l, size_t l_len, const int32_t *a, size_t 
 uint32_t lq_deck_read(const uint8_t *file, size_t length, int32_t *l, size_t l_room, int32_t *a, size_t a_room,
                       int32_t *b, size_t b_room, size_t *count);
 
+/* Imports the colour lab's text, of CGATS form, from its `length` bytes, which have to be the whole text:
+ *
+ *     BEGIN_DATA_FORMAT
+ *     SAMPLE_ID LAB_L LAB_A LAB_B         (the four names in any order)
+ *     END_DATA_FORMAT
+ *     NUMBER_OF_SETS 2                    (one to five digits)
+ *     BEGIN_DATA
+ *     4711 52.5 -3.25 17.0625             (a row: four fields in the order of the names)
+ *     4712 48.125 0 -1.5
+ *     END_DATA
+ *
+ * Each line is ended by a newline, one space between words. SAMPLE_ID is one to ten digits, at most
+ * 4,294,967,295; the others are decimals, an optional minus, one to three digits, and optionally a point
+ * and one to four digits, exact in 1/10,000. The swatches stand at the front of four columns in rising
+ * lightness, those of equal lightness in the order of their rows; each column needs room for all, and
+ * entries past them keep their contents. `*count` is the number of swatches. The columns l, a and b then
+ * hold a deck that lq_search accepts. Refusals 14 (anything wrong outside the rows), 15 (a row malformed),
+ * 16 (the number of rows is not NUMBER_OF_SETS), then 6 and 7, then 13. */
+uint32_t lq_import(const uint8_t *text, size_t length, uint32_t *code, size_t code_room, int32_t *l, size_t l_room,
+                   int32_t *a, size_t a_room, int32_t *b, size_t b_room, size_t *count);
+
 #ifdef __cplusplus
 }
 #endif

@@ -13,6 +13,7 @@ use Rattle.deck.specs.Search.{searchAnswer, Searches}
 use Rattle.deck.specs.declared.Found.{Found}
 use Rattle.deck.specs.declared.Found.the-variants.{Count, Refused as FoundRefused, Short}
 use Rattle.deck_file.specs.Transfers.{Columns, writeAnswer, readAnswer, transferNumber, transferSize, Writes, Reads}
+use Rattle.lab_text.specs.Imports.{Columns as LabColumns, importAnswer, Imports}
 use Rattle.measure.specs.Answers.{refusalOf, differenceOf}
 use Rattle.measure.specs.declared.Difference.{Difference}
 
@@ -54,3 +55,9 @@ pub record HandsRead (bs : List ℕ) (old new : Columns) (number count : ℕ) : 
   pub refusal : number ≡ transferNumber (readAnswer bs old)
   pub handed : count ≡ transferSize (readAnswer bs old)
   pub read : Reads bs old new (readAnswer bs old)
+
+-- what an import of the lab's text hands over: the refusal's number, the number of swatches, and the columns
+pub record HandsImport (text : List ℕ) (old new : LabColumns) (number count : ℕ) : Type 0 where
+  pub refusal : number ≡ transferNumber (importAnswer text old)
+  pub handed : count ≡ transferSize (importAnswer text old)
+  pub imported : Imports text old new (importAnswer text old)

@@ -13,7 +13,8 @@ ghost use Rattle.deck.specs.Deck.{asked, columns};
 ghost use Rattle.deck.specs.Answers.{numberOf};
 ghost use Rattle.deck_file.specs.Transfers.{transferNumber, transferSize, lent};
 ghost use Rattle.lahsufiq.specs.Interface.{reading, weights, oneOf, handedCount, Hands, HandsSearch};
-ghost use Rattle.lahsufiq.specs.Interface.{HandsWrite, HandsRead};
+ghost use Rattle.lab_text.specs.Imports.{lent as lentColumns};
+ghost use Rattle.lahsufiq.specs.Interface.{HandsWrite, HandsRead, HandsImport};
 use deck::Found;
 use deck_file::Transfer;
 use fixed_point::Reading;
@@ -375,4 +376,25 @@ pub extern "C" fn lq_deck_read(
     let found = deck_file::read(file, l, a, b);
     *count = transfer_size(found);
     transfer_number(found)
+}
+
+// The swatches of the lab's text in rising lightness, to the front of the columns that were lent.
+#[no_mangle]
+pub extern "C" fn lq_import(
+    text: &[u8],
+    code: &mut [u32],
+    l: &mut [i32],
+    a: &mut [i32],
+    b: &mut [i32],
+    count: &mut usize,
+) -> u32
+    ensures import { λ r.
+        let old = lentColumns (now (code .entry)) (now (l .entry)) (now (a .entry)) (now (b .entry)) in
+        let new = lentColumns (now (code .exit)) (now (l .exit)) (now (a .exit)) (now (b .exit)) in
+        ⌜ HandsImport (now (text .entry)) old new r (now (count .exit)) ⌝ }
+    ensures text { λ _. ⌜ now (text .exit) ≡ now (text .entry) ⌝ }
+{
+    let imported = lab_text::import(text, code, l, a, b);
+    *count = transfer_size(imported);
+    transfer_number(imported)
 }
