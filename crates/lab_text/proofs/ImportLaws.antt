@@ -19,13 +19,14 @@ use Rattle.deck_file.specs.declared.Transfer.{Transfer}
 use Rattle.deck_file.specs.declared.Transfer.the-variants.{Done, Refused}
 use Rattle.deck_file.proofs.Answering.{refused-answer, refused-contents, done-answer, done-contents, number-is, contents-kept}
 use Rattle.lab_text.specs.Text.{textRefusal, swatchesOf}
-use Rattle.lab_text.specs.Imports.{codes, lightnesses, greenReds, blueYellows, deckOf, Columns, lent, importRefusal, importAnswer}
+use Rattle.swatches.specs.Swatches.{codes, lightnesses, greenReds, blueYellows}
+use Rattle.lab_text.specs.Imports.{Columns, lent, importRefusal, importAnswer}
 use Rattle.lab_text.specs.Imports.{columnsAfter, front, rest, Imports}
 use Rattle.lab_text.specs.Inner.{IsLabDeck}
-use Rattle.lab_text.specs.declared.Swatch.{Swatch}
+use Rattle.swatches.specs.declared.Swatch.{Swatch}
 use Rattle.lab_text.specs.declared.LabDeck.{LabDeck}
 use Rattle.lab_text.proofs.ReadLaws.{none-true}
-use Rattle.lab_text.proofs.ValidLaws.{text-valid, text-ordered}
+use Rattle.lab_text.proofs.TextLaws.{text-valid, text-ordered}
 
 -- the number of swatches that were read, where the text is not refused
 pub read-count : (text : List ℕ) {d : LabDeck} → IsLabDeck text d → textRefusal text ≡ 0 → d .count ≡ length (swatchesOf text)

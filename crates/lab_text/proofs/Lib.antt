@@ -1,8 +1,7 @@
--- `ValidLaws` is for callers; the others are for the proofs of this crate's functions.
+-- `TextLaws`, and of `ImportLaws` the count, are for callers; the others are for the proofs of this crate's functions.
 mod FieldLaws
 mod HeadLaws
 mod RowLaws
-mod SortedLaws
-mod ReadLaws
-pub mod ValidLaws
-mod ImportLaws
+pub mod ReadLaws
+pub mod TextLaws
+pub mod ImportLaws

@@ -12,12 +12,13 @@ use Rattle.sample.specs.Refusals.{firstOf, firstRefusal}
 use Rattle.sample.proofs.RefusalLaws.{first-none, first-cons, none-of}
 use Rattle.deck.specs.Deck.{mostSwatches}
 use Rattle.buffer.specs.Inner.{partsFrom}
+use Rattle.swatches.specs.Swatches.{all, isWithin, byLightness}
 use Rattle.lab_text.specs.Fields.{setsIn, isRow, rowIn}
-use Rattle.lab_text.specs.Text.{lineAt, bodyOf, rowLines, ends, isHead, rowOrder, all, isWithin, rowsOf, byLightness, swatchesOf}
+use Rattle.lab_text.specs.Text.{lineAt, bodyOf, rowLines, ends, isHead, rowOrder, rowsOf, swatchesOf}
 use Rattle.lab_text.specs.Text.{formRefusal, rowRefusal, setsRefusal, sizeRefusal, limitsRefusal, textRefusal}
 use Rattle.lab_text.specs.Inner.{OrderIn, HeadRead, TableRead, rowsRefusal, tableRefusal, IsChecked, IsLabDeck}
 use Rattle.lab_text.proofs.HeadLaws.{names-in, head-names}
-use Rattle.lab_text.specs.declared.Swatch.{Swatch}
+use Rattle.swatches.specs.declared.Swatch.{Swatch}
 use Rattle.lab_text.specs.declared.LabDeck.{LabDeck}
 use Rattle.lab_text.specs.declared.head.Head.{Head}
 use Rattle.lab_text.specs.declared.head.Order.{Order}

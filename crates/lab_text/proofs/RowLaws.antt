@@ -16,14 +16,15 @@ use Rattle.buffer.specs.Parts.{startWith, partsOf}
 use Rattle.buffer.specs.Inner.{partsFrom}
 use Rattle.buffer.proofs.PartsLaws.{from-in, from-out, never-none}
 use Rattle.deck.specs.Deck.{mostSwatches}
+use Rattle.swatches.specs.Swatches.{all, isWithin}
 use Rattle.lab_text.specs.Keywords.{endData}
 use mir.Syntax.{w32}
 use mir.Val.{ofZ, toZ}
 use mir.Facts.{toZ-ofZ}
 use Rattle.lab_text.specs.Fields.{wordsOf, wordAt, isRow, rowIn}
-use Rattle.lab_text.specs.Text.{isEnd, ends, rowLines, all, isWithin}
+use Rattle.lab_text.specs.Text.{isEnd, ends, rowLines}
 use Rattle.lab_text.specs.Inner.{CodeRead, ValueRead, IsWords, RowRead, TableRead}
-use Rattle.lab_text.specs.declared.Swatch.{Swatch}
+use Rattle.swatches.specs.declared.Swatch.{Swatch}
 use Rattle.lab_text.specs.declared.rows.Row.{Row}
 use Rattle.lab_text.specs.declared.fields.Code.{Code}
 use Rattle.lab_text.specs.declared.fields.Value.{Value}

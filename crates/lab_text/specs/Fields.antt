@@ -10,7 +10,7 @@ use Rattle.buffer.specs.Parts.{partsOf}
 use Rattle.decimal.specs.Reading.{Found, found, missing, Run, runOf, decimalOf}
 use Rattle.sample.specs.Sample.{Colour}
 use Rattle.lab_text.specs.Keywords.{numberOfSets, sampleId, labL, labA, labB}
-use Rattle.lab_text.specs.declared.Swatch.{Swatch}
+use Rattle.swatches.specs.declared.Swatch.{Swatch}
 use Rattle.lab_text.specs.declared.head.Order.{Order}
 
 -- the words of a line; two spaces have an empty word between them, and so has a space at the line's start or end before or

@@ -1,43 +1,25 @@
 -- What an import to lent columns promises.
 use mathlib.Core.Path.{_≡_}
 use mathlib.Core.Bool.{_&&_}
-use mathlib.Core.List.{List, [], _∷_, map}
+use mathlib.Core.List.{List, [], _∷_}
 use Prim.Native.Nat.{ℕ}
 use lib.Dec.{leb}
 use lib.IntN.{ℤ}
 use lib.ListN.{length, take, drop}
-use Rattle.sorting.specs.Order.{stableOrder, IsStableOrder}
+use Rattle.sorting.specs.Order.{IsStableOrder}
 use Rattle.sample.specs.Refusals.{firstRefusal}
 use Rattle.deck.specs.Deck.{Deck, columns, deckRefusal}
 use Rattle.deck_file.specs.Refusals.{roomRefusal}
 use Rattle.deck_file.specs.Transfers.{transferOf, transferNumber, transferSize, contentsOf}
 use Rattle.deck_file.specs.declared.Transfer.{Transfer}
-use Rattle.lab_text.specs.Text.{rowsOf, textRefusal, lightnessAt, swatchesOf}
-use Rattle.lab_text.specs.declared.Swatch.{Swatch}
-
--- ---- swatches and their columns
-
-abbrev pub codes : List Swatch → List ℕ
-codes ss = map (λ (s : Swatch). s .code) ss
-
-abbrev pub lightnesses : List Swatch → List ℤ
-lightnesses ss = map (λ (s : Swatch). s .l) ss
-
-abbrev pub greenReds : List Swatch → List ℤ
-greenReds ss = map (λ (s : Swatch). s .a) ss
-
-abbrev pub blueYellows : List Swatch → List ℤ
-blueYellows ss = map (λ (s : Swatch). s .b) ss
-
--- the deck that they make: that of their columns
-abbrev pub deckOf : List Swatch → Deck
-deckOf ss = columns (lightnesses ss) (greenReds ss) (blueYellows ss)
+use Rattle.swatches.specs.Swatches.{codes, lightnesses, greenReds, blueYellows, lightnessAt, lightnessOrder}
+use Rattle.swatches.specs.declared.Swatch.{Swatch}
+use Rattle.lab_text.specs.Text.{rowsOf, textRefusal, swatchesOf}
 
 -- the rows in the order of the deck: a permutation, lightness never falls, rows of equal lightness in their old order
 abbrev pub InDeckOrder : List ℕ → Type 0
 InDeckOrder text =
-    let rows = rowsOf text in
-    IsStableOrder (lightnessAt rows) (length rows) (stableOrder (lightnessAt rows) (length rows))
+    let rows = rowsOf text in IsStableOrder (lightnessAt rows) (length rows) (lightnessOrder rows)
 
 -- ---- lent columns
 

@@ -10,8 +10,9 @@ use mir.Val.{SFits}
 use Rattle.buffer.specs.Inner.{partsFrom}
 use Rattle.sample.specs.Refusals.{firstOf, firstRefusal}
 use Rattle.deck.specs.Deck.{mostSwatches}
+use Rattle.swatches.specs.Swatches.{all, isWithin, byLightness}
 use Rattle.lab_text.specs.Fields.{wordsOf, isNumber, numberIn, isCode, isValue, valueIn, isNames, orderOf, isSets, setsIn, isRow, rowIn}
-use Rattle.lab_text.specs.Text.{lineAt, bodyOf, rowOrder, isHead, rowLines, ends, all, isWithin, textRefusal, byLightness, swatchesOf}
+use Rattle.lab_text.specs.Text.{lineAt, bodyOf, rowOrder, isHead, rowLines, ends, textRefusal, swatchesOf}
 use Rattle.lab_text.specs.declared.fields.Number.{Number}
 use Rattle.lab_text.specs.declared.fields.Code.{Code}
 use Rattle.lab_text.specs.declared.fields.Value.{Value}

@@ -1,19 +1,17 @@
 -- The lab's text: the lines, what is refused of them, and the swatches of an accepted text.
-use mathlib.Core.Bool.{Bool, true, false, _&&_, cond}
+use mathlib.Core.Bool.{Bool, false, _&&_, cond}
 use mathlib.Core.List.{List, [], _∷_, map}
 use Prim.Native.Nat.{ℕ}
 use lib.Dec.{leb, eqb}
-use lib.IntN.{pos}
 use lib.ListN.{length, getD, drop}
 use Rattle.buffer.specs.Numbers.{same}
 use Rattle.buffer.specs.Parts.{partsOf}
-use Rattle.sorting.specs.Order.{stableOrder}
-use Rattle.sample.specs.Sample.{Colour, colourRefusal, colourSample}
 use Rattle.sample.specs.Refusals.{firstRefusal}
 use Rattle.deck.specs.Deck.{mostSwatches}
 use Rattle.lab_text.specs.Keywords.{beginDataFormat, endDataFormat, beginData, endData}
 use Rattle.lab_text.specs.Fields.{isEmpty, isNames, orderOf, isSets, setsIn, isRow, rowIn}
-use Rattle.lab_text.specs.declared.Swatch.{Swatch}
+use Rattle.swatches.specs.Swatches.{all, isWithin, byLightness}
+use Rattle.swatches.specs.declared.Swatch.{Swatch}
 use Rattle.lab_text.specs.declared.head.Order.{Order}
 
 -- ---- lines
@@ -57,19 +55,6 @@ isHead text =
 abbrev pub rowOrder : List ℕ → Order
 rowOrder text = orderOf (lineAt text 1)
 
-module _ {A : Type 0} where
-  -- f holds of each
-  unfoldable pub all : (A → Bool) → List A → Bool
-  all f [] = true
-  all f (x ∷ xs) = f x && all f xs
-
-abbrev pub colourIn : Swatch → Colour
-colourIn s = record { l = s .l; a = s .a; b = s .b }
-
--- within the limits
-abbrev pub isWithin : Swatch → Bool
-isWithin s = eqb (colourRefusal (colourIn s)) 0
-
 -- the swatches in the order of their rows
 unfoldable pub rowsOf : List ℕ → List Swatch
 rowsOf text = map (rowIn (rowOrder text)) (rowLines (bodyOf text))
@@ -103,19 +88,6 @@ textRefusal text =
 
 -- ---- the deck
 
-abbrev pub swatchAt : List Swatch → ℕ → Swatch
-swatchAt rows k = getD rows k (record { code = 0; l = pos 0; a = pos 0; b = pos 0 })
-
--- the lightness of a swatch that is within the limits
-abbrev pub lightnessOf : Swatch → ℕ
-lightnessOf s = colourSample (colourIn s) .l
-
-abbrev pub lightnessAt : List Swatch → ℕ → ℕ
-lightnessAt rows k = lightnessOf (swatchAt rows k)
-
 -- the swatches in rising lightness, those of equal lightness in the order of their rows
-unfoldable pub byLightness : List Swatch → List Swatch
-byLightness rows = map (swatchAt rows) (stableOrder (lightnessAt rows) (length rows))
-
 unfoldable pub swatchesOf : List ℕ → List Swatch
 swatchesOf text = byLightness (rowsOf text)

@@ -1,28 +1,18 @@
 // The colour lab's text, of CGATS form: what is refused of it, and the swatches that it lists, put in
 // rising lightness. specs/Text.antt has the form line by line.
 ghost use mathlib.Core.Path.{_≡_};
-ghost use mathlib.Core.List.{_++_};
-ghost use Prim.Native.Nat.{_≤_};
-ghost use lib.ListN.{length, take, drop};
+ghost use lib.ListN.{length};
 ghost use Rattle.deck.specs.Deck.{mostSwatches};
-ghost use Rattle.lab_text.specs.Imports.{codes, lightnesses, greenReds, blueYellows, lent, Imports};
+ghost use Rattle.lab_text.specs.Imports.{lent, Imports};
 ghost use Rattle.lab_text.specs.Inner.{rowsRefusal, IsChecked, IsLabDeck};
 
 mod fields;
 mod head;
 mod rows;
-mod sorted;
 
 use deck_file::Transfer;
 use rows::Table;
-
-// A swatch as the lab lists it: its number, and L, a and b in 1/10,000.
-pub struct Swatch {
-    pub code: u32,
-    pub l: i32,
-    pub a: i32,
-    pub b: i32,
-}
+use swatches::Swatch;
 
 // The refusal of a text, or 0, and where there is none the number of its swatches and these, in
 // rising lightness.
@@ -55,7 +45,7 @@ fn rows_refusal(right: bool, count: usize, sets: usize, within: bool) -> u8
 fn refused(refusal: u8) -> LabDeck
     ensures { λ r. ⌜ (r .refusal ≡ refusal) × (r .count ≡ 0) × (length (r .swatches) ≡ mostSwatches) ⌝ }
 {
-    let swatches = rows::no_swatches();
+    let swatches = swatches::no_swatches();
     LabDeck {
         refusal,
         count: 0,
@@ -72,7 +62,7 @@ fn checked(sets: usize, t: Table) -> LabDeck
         let refusal = rows_refusal(t.right, t.count, sets, t.within);
         if refusal == 0 {
             let rows = t.swatches;
-            let swatches = sorted::by_lightness(rows, t.count);
+            let swatches = swatches::by_lightness(rows, t.count);
             return LabDeck {
                 refusal: 0,
                 count: t.count,
@@ -94,36 +84,6 @@ pub fn read(text: &[u8]) -> LabDeck
         return checked(head.sets, t);
     }
     refused(14)
-}
-
-// Writes the first n swatches to the fronts of four columns.
-fn put_columns(
-    swatches: [Swatch; deck::MOST_SWATCHES],
-    n: usize,
-    code: &mut [u32],
-    l: &mut [i32],
-    a: &mut [i32],
-    b: &mut [i32],
-)
-    requires { ⌜ (length swatches ≡ mostSwatches) × (n ≤ mostSwatches) ⌝ }
-    requires { ⌜ (n ≤ length (now code)) × ((n ≤ length (now l)) × ((n ≤ length (now a)) × (n ≤ length (now b)))) ⌝ }
-    ensures code { λ _. ⌜ now (code .exit) ≡ codes (take n swatches) ++ drop n (now (code .entry)) ⌝ }
-    ensures l { λ _. ⌜ now (l .exit) ≡ lightnesses (take n swatches) ++ drop n (now (l .entry)) ⌝ }
-    ensures a { λ _. ⌜ now (a .exit) ≡ greenReds (take n swatches) ++ drop n (now (a .entry)) ⌝ }
-    ensures b { λ _. ⌜ now (b .exit) ≡ blueYellows (take n swatches) ++ drop n (now (b .entry)) ⌝ }
-{
-    let mut k = 0;
-    while k < n {
-        let s = swatches[k];
-        let lightness = s.l;
-        let green_red = s.a;
-        let blue_yellow = s.b;
-        code[k] = s.code;
-        l[k] = lightness;
-        a[k] = green_red;
-        b[k] = blue_yellow;
-        k += 1;
-    }
 }
 
 // Imports the lab's text to the fronts of the caller's columns. `Imports` says all, for every call.
@@ -148,6 +108,7 @@ pub fn import(
         return Transfer::Refused(refusal);
     }
     let swatches = d.swatches;
-    put_columns(swatches, n, code, l, a, b);
+    swatches::put_codes(swatches, n, code);
+    swatches::put_colours(swatches, n, l, a, b);
     Transfer::Done(n)
 }

@@ -2,9 +2,6 @@
 ghost use mathlib.Core.Path.{_≡_};
 ghost use Prim.Native.Nat.{_≤_};
 ghost use Rattle.buffer.specs.Inner.{partsFrom};
-ghost use lib.ListN.{length};
-ghost use Rattle.deck.specs.Deck.{mostSwatches};
-ghost use Rattle.lab_text.specs.Text.{isWithin};
 ghost use Rattle.lab_text.specs.Inner.{OrderIn, RowRead, TableRead};
 use super::Swatch;
 use super::fields;
@@ -37,18 +34,6 @@ fn read_row(line: &[u8], o: Order) -> Row
     }
 }
 
-// Whether a swatch is within the limits.
-fn is_within(s: Swatch) -> bool
-    ensures { λ r. ⌜ r ≡ isWithin s ⌝ }
-{
-    let colour = FixedColour {
-        l: signed::from_i32(s.l),
-        a: signed::from_i32(s.a),
-        b: signed::from_i32(s.b),
-    };
-    sample::colour_refusal(colour) == 0
-}
-
 // What was found: whether END_DATA ends the text, whether each line before it is a row, whether each
 // swatch is within the limits, how many rows there are, and their first 4,096 swatches.
 pub struct Table {
@@ -59,23 +44,11 @@ pub struct Table {
     pub swatches: [Swatch; deck::MOST_SWATCHES],
 }
 
-// Room for the swatches.
-pub fn no_swatches() -> [Swatch; deck::MOST_SWATCHES]
-    ensures { λ r. ⌜ length r ≡ mostSwatches ⌝ }
-{
-    [Swatch {
-        code: 0,
-        l: 0,
-        a: 0,
-        b: 0,
-    }; deck::MOST_SWATCHES]
-}
-
 pub fn read_rows(text: &[u8], first: usize, o: Order) -> Table
     requires { ⌜ OrderIn o ⌝ }
     ensures { λ r. ⌜ TableRead o (partsFrom 10 (now (text .entry)) first) r ⌝ }
 {
-    let mut swatches = no_swatches();
+    let mut swatches = swatches::no_swatches();
     let mut right = true;
     let mut within = true;
     let mut count = 0;
@@ -95,7 +68,7 @@ pub fn read_rows(text: &[u8], first: usize, o: Order) -> Table
         let row = read_row(line, o);
         let swatch = row.swatch;
         right = right & row.right;
-        within = within & is_within(swatch);
+        within = within & swatches::is_within(swatch);
         if count < deck::MOST_SWATCHES {
             swatches[count] = swatch;
         }

@@ -16,19 +16,32 @@ refusal-is c =
 returns : tie.Need-returns
 returns c = (imports-refused _ _ _ _ _ (refusal-is (c .before)) (c .if1 .taken), refl)
 
-put-columns-requires : tie.Need-put-columns-requires
-put-columns-requires c κs =
-    let e = c .before .before .before .before .before in
+-- nothing is refused
+none : (c : tie.Else1) → let x = c .before .before .before .before .before .before .args in
+    importRefusal (x .text .now) (lent (x .code .now) (x .l .now) (x .a .now) (x .b .now)) ≡ 0
+none c = sym (refusal-is (c .before)) ∙ c .if1 .left
+
+put-codes-requires : tie.Need-put-codes-requires
+put-codes-requires c κs =
+    let e = c .before .before in
     let d = e .before .before .before .read .ensures in
-    ((d .size, d .most), room _ _ _ _ _ d (sym (refusal-is (e .before)) ∙ e .if1 .left))
+    ((d .size, d .most), room _ _ _ _ _ d (none e) .0)
+
+put-colours-requires : tie.Need-put-colours-requires
+put-colours-requires c κs =
+    let codes = c .before .before .before .before .before in
+    let e = codes .before .before .before in
+    let d = e .before .before .before .read .ensures in
+    ((d .size, d .most), room _ _ _ _ _ d (none e) .1)
 
 returns-2 : tie.Need-returns-2
 returns-2 c =
-    let put = c .before .before .before .before .before in
-    let e = put .before .before .before .before .before .before in
+    let colours = c .before .before .before in
+    let codes = colours .before .before .before .before .before .before in
+    let e = codes .before .before .before in
     let d = e .before .before .before .read .ensures in
-    let p = put .put-columns .ensures in
-    (imports-done _ _ _ _ _ d (sym (refusal-is (e .before)) ∙ e .if1 .left) (p .0) (p .1 .0) (p .1 .1 .0) (p .1 .1 .1), refl)
+    let p = colours .put-colours .ensures in
+    (imports-done _ _ _ _ _ d (none e) (codes .put-codes .ensures) (p .0) (p .1 .0) (p .1 .1), refl)
 
 pub import-spec : {M : Type 1} → statement M
 import-spec =
@@ -38,7 +51,8 @@ import-spec =
     (λ c κs. search needs)
     (λ c κs. search needs)
     returns
-    put-columns-requires
+    put-codes-requires
+    put-colours-requires
     (λ c. search needs)
     (λ c. search needs)
     (λ c. search needs)

@@ -1,4 +1,4 @@
--- The swatches of a text that is not refused make a valid deck, in the order of their lightness. Assumes nothing.
+-- Swatches within the limits, put in the order of their lightness, make a valid deck. Assumes nothing.
 use mathlib.Core.Path.{_≡_, refl, sym, ap, ap₂, subst, _∙_}
 use mathlib.Core.Bool.{Bool, true, false, _&&_, cond, and-eq-true-iff}
 use mathlib.Core.List.{List, [], _∷_, map}
@@ -15,15 +15,12 @@ use Rattle.places.proofs.PlacesLaws.{every-of}
 use Rattle.sorting.specs.Order.{stableOrder, IsStableOrder}
 use Rattle.sorting.proofs.OrderLaws.{order-is}
 use Rattle.sample.specs.Sample.{Colour, colourRefusal, colourSample}
-use Rattle.sample.proofs.RefusalLaws.{none-of}
 use Rattle.sample.proofs.SampleLaws.{accepted-lightness}
 use Rattle.deck.specs.Deck.{mostSwatches, columnsAt, swatchesIn, lightnessRises, deckRefusal}
 use Rattle.deck.proofs.DeckLaws.{sizes-in, refusal-is}
-use Rattle.lab_text.specs.Text.{all, colourIn, isWithin, rowsOf, sizeRefusal, limitsRefusal, textRefusal}
-use Rattle.lab_text.specs.Text.{swatchAt, lightnessAt, byLightness, swatchesOf}
-use Rattle.lab_text.specs.Imports.{lightnesses, greenReds, blueYellows, deckOf, InDeckOrder}
-use Rattle.lab_text.specs.declared.Swatch.{Swatch}
-use Rattle.lab_text.proofs.ReadLaws.{none-true}
+use Rattle.swatches.specs.Swatches.{colourIn, isWithin, noSwatch, swatchAt, all, lightnesses, greenReds, blueYellows, deckOf}
+use Rattle.swatches.specs.Swatches.{lightnessAt, lightnessOrder, byLightness}
+use Rattle.swatches.specs.declared.Swatch.{Swatch}
 
 -- ---- lists
 
@@ -45,9 +42,9 @@ pub deck-colour : (ss : List Swatch) (k : ℕ) → deckOf ss .colour k ≡ colou
 unfolding columnsAt
 deck-colour ss k =
     λ i. record {
-      l = List·getD-map (λ (s : Swatch). s .l) ss k (swatchAt [] 0) i;
-      a = List·getD-map (λ (s : Swatch). s .a) ss k (swatchAt [] 0) i;
-      b = List·getD-map (λ (s : Swatch). s .b) ss k (swatchAt [] 0) i;
+      l = List·getD-map (λ (s : Swatch). s .l) ss k noSwatch i;
+      a = List·getD-map (λ (s : Swatch). s .a) ss k noSwatch i;
+      b = List·getD-map (λ (s : Swatch). s .b) ss k noSwatch i;
     }
 
 module _ (rows : List Swatch) (most : length rows ≤ mostSwatches) (within : all isWithin rows ≡ true) where
@@ -55,7 +52,7 @@ module _ (rows : List Swatch) (most : length rows ≤ mostSwatches) (within : al
   n = length rows
 
   abbrev order : List ℕ
-  order = stableOrder (lightnessAt rows) n
+  order = lightnessOrder rows
 
   abbrev ss : List Swatch
   ss = byLightness rows
@@ -70,7 +67,7 @@ module _ (rows : List Swatch) (most : length rows ≤ mostSwatches) (within : al
   -- what stands at a place is a row, within the limits
   swatch-is : (k : ℕ) → k < n → deckOf ss .colour k ≡ colourIn (swatchAt rows (getD order k 0))
   unfolding byLightness
-  swatch-is k h = deck-colour ss k ∙ ap colourIn (map-at (swatchAt rows) order k (swatchAt [] 0) 0 (omega (arith, stands .size)))
+  swatch-is k h = deck-colour ss k ∙ ap colourIn (map-at (swatchAt rows) order k noSwatch 0 (omega (arith, stands .size)))
 
   row-within : (k : ℕ) → k < n → colourRefusal (colourIn (swatchAt rows (getD order k 0))) ≡ 0
   row-within k h = eqb-true _ 0 (all-at isWithin rows (getD order k 0) within (stands .inside k h))
@@ -100,16 +97,3 @@ module _ (rows : List Swatch) (most : length rows ≤ mostSwatches) (within : al
       (λ j h. every-of (λ i. leZ (deckOf ss .colour i .l) (deckOf ss .colour j .l)) j
       (λ i l. rises-at i j l (omega (arith, count-is)))) in
       sym (refusal-is (deckOf ss) true true true sized inside rises)
-
--- ---- a text that is not refused
-
-pub text-valid : (text : List ℕ) → textRefusal text ≡ 0 → deckRefusal (deckOf (swatchesOf text)) ≡ 0
-unfolding textRefusal sizeRefusal limitsRefusal swatchesOf
-text-valid text e =
-    let few = none-of _ _ (none-of _ _ (none-of _ _ (none-of _ _ e .1) .1) .1) in
-    let ok = none-of _ _ (few .1) in
-    sorted-valid (rowsOf text) (leb-true _ _ (none-true _ (λ z. absurd (omega arith)) (few .0)))
-    (none-true _ (λ z. absurd (omega arith)) (ok .0))
-
-pub text-ordered : (text : List ℕ) → InDeckOrder text
-text-ordered text = order-is (lightnessAt (rowsOf text)) (length (rowsOf text))

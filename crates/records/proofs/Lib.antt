@@ -1,0 +1,3 @@
+-- `RecordsLaws` is for callers; the others are for the proofs of this crate's functions.
+pub mod RecordsLaws
+pub mod Walking

@@ -1,0 +1,2 @@
+-- What the contracts of `swatches` cite, and those of the calls over them.
+pub mod Swatches
