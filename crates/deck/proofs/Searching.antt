@@ -1,8 +1,9 @@
--- What a search promises, of the equations that its answer and the caller's list satisfy. Assumes nothing.
+-- What a search promises, of the equations that its answer and the caller's list satisfy; and that all decks whose size
+-- is not in order are searched alike. Assumes nothing.
 use mathlib.Core.Path.{_≡_, refl, sym, ap, _∙_}
-use mathlib.Core.Bool.{true}
+use mathlib.Core.Bool.{true, false}
 use mathlib.Core.List.{List, _++_}
-use Prim.Native.Nat.{ℕ, _+_, _-_, _*_, _≤_, _<_}
+use Prim.Native.Nat.{ℕ, zero, suc, _+_, _-_, _*_, _≤_, _<_}
 use native.Mathlib.Omega.{arith}
 use borrow.Author.Tests.{leb-true, le-leb}
 use lib.IntN.{natAbs}
@@ -17,8 +18,8 @@ use Rattle.fixed_point.proofs.FixedLaws.{sample-in, weights-in}
 use Rattle.difference.specs.Pair.{lightnessDifference}
 use Rattle.difference.specs.Verdict.{withinTolerance}
 use Rattle.difference.proofs.LightnessBound.{lightness-bound}
-use Rattle.deck.specs.Deck.{Deck, Query, FixedQuery, fixedQuery, searchRefusal, differenceAt, matchAt, matchList}
-use Rattle.deck.specs.Answers.{countOf, Refuses}
+use Rattle.deck.specs.Deck.{Deck, Query, FixedQuery, fixedQuery, deckRefusal, searchRefusal, differenceAt, matchAt, matchList}
+use Rattle.deck.specs.Answers.{foundOf, contentsOf, countOf, Refuses}
 use Rattle.deck.specs.Search.{searchMatches, searchTally, Searches}
 use Rattle.deck.specs.ListsMatches.{ListsMatches}
 use Rattle.deck.specs.declared.Found.{Found}
@@ -132,3 +133,26 @@ module _ (q : Query) (d : Deck) (old new : List ℕ) (r : Found)
     short = search-short;
     listed = search-listed;
   }
+
+-- ---- decks whose size is not in order
+
+-- the matches play no part in what is refused
+refused-alike : (k : ℕ) (xs ys old : List ℕ) (r : Found) (new : List ℕ) → (k ≡ 0 → ⊥) → Answers k xs old r new → Answers k ys old r new
+unfolding foundOf contentsOf
+refused-alike zero xs ys old r new h a = absurd (h refl)
+refused-alike (suc n) xs ys old r new h a = a
+
+unsized-refusal : (d : Deck) → d .sized ≡ false → deckRefusal d ≡ 6
+unfolding deckRefusal
+unsized-refusal d e = rw e
+
+-- they are searched alike
+pub searches-unsized : (q : Query) (d e : Deck) (old new : List ℕ) (r : Found) → d .sized ≡ false → e .sized ≡ false
+    → Searches q d old new r → Searches q e old new r
+unfolding searchRefusal
+searches-unsized q d e old new r d-is e-is s =
+    let six = unsized-refusal e e-is in
+    let same : searchRefusal q d ≡ searchRefusal q e = rw (unsized-refusal d d-is, six) in
+    let refused : searchRefusal q e ≡ 0 → ⊥ = λ z. let h = search-accepts q e z .deck-in in omega (arith, six) in
+    let was : Answers (searchRefusal q d) (searchMatches q d) old r new = (s .answer, s .contents) in
+    searches q e old new r (refused-alike _ (searchMatches q d) _ old r new refused (rw same at was))

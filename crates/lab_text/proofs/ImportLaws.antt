@@ -21,8 +21,7 @@ use Rattle.deck_file.proofs.Answering.{refused-answer, refused-contents, done-a
 use Rattle.lab_text.specs.Text.{textRefusal, swatchesOf}
 use Rattle.swatches.specs.Swatches.{codes, lightnesses, greenReds, blueYellows}
 use Rattle.lab_text.specs.Imports.{Columns, lent, importRefusal, importAnswer}
-use Rattle.lab_text.specs.Imports.{columnsAfter, front, rest, Imports}
-use Rattle.lab_text.specs.Inner.{IsLabDeck}
+use Rattle.lab_text.specs.Imports.{IsLabDeck, columnsAfter, front, rest, Imports}
 use Rattle.swatches.specs.declared.Swatch.{Swatch}
 use Rattle.lab_text.specs.declared.LabDeck.{LabDeck}
 use Rattle.lab_text.proofs.ReadLaws.{none-true}

@@ -16,7 +16,8 @@ use Rattle.swatches.specs.Swatches.{all, isWithin, byLightness}
 use Rattle.lab_text.specs.Fields.{setsIn, isRow, rowIn}
 use Rattle.lab_text.specs.Text.{lineAt, bodyOf, rowLines, ends, isHead, rowOrder, rowsOf, swatchesOf}
 use Rattle.lab_text.specs.Text.{formRefusal, rowRefusal, setsRefusal, sizeRefusal, limitsRefusal, textRefusal}
-use Rattle.lab_text.specs.Inner.{OrderIn, HeadRead, TableRead, rowsRefusal, tableRefusal, IsChecked, IsLabDeck}
+use Rattle.lab_text.specs.Inner.{OrderIn, HeadRead, TableRead, rowsRefusal, tableRefusal, IsChecked}
+use Rattle.lab_text.specs.Imports.{IsLabDeck}
 use Rattle.lab_text.proofs.HeadLaws.{names-in, head-names}
 use Rattle.swatches.specs.declared.Swatch.{Swatch}
 use Rattle.lab_text.specs.declared.LabDeck.{LabDeck}

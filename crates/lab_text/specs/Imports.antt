@@ -1,25 +1,37 @@
--- What an import to lent columns promises.
+-- What the reading of a text, and its import to lent columns, promise.
 use mathlib.Core.Path.{_≡_}
 use mathlib.Core.Bool.{_&&_}
 use mathlib.Core.List.{List, [], _∷_}
-use Prim.Native.Nat.{ℕ}
+use Prim.Native.Nat.{ℕ, _≤_}
 use lib.Dec.{leb}
 use lib.IntN.{ℤ}
 use lib.ListN.{length, take, drop}
 use Rattle.sorting.specs.Order.{IsStableOrder}
 use Rattle.sample.specs.Refusals.{firstRefusal}
-use Rattle.deck.specs.Deck.{Deck, columns, deckRefusal}
+use Rattle.deck.specs.Deck.{Deck, mostSwatches, columns, deckRefusal}
 use Rattle.deck_file.specs.Refusals.{roomRefusal}
 use Rattle.deck_file.specs.Transfers.{transferOf, transferNumber, transferSize, contentsOf}
 use Rattle.deck_file.specs.declared.Transfer.{Transfer}
 use Rattle.swatches.specs.Swatches.{codes, lightnesses, greenReds, blueYellows, lightnessAt, lightnessOrder}
 use Rattle.swatches.specs.declared.Swatch.{Swatch}
 use Rattle.lab_text.specs.Text.{rowsOf, textRefusal, swatchesOf}
+use Rattle.lab_text.specs.declared.LabDeck.{LabDeck}
 
 -- the rows in the order of the deck: a permutation, lightness never falls, rows of equal lightness in their old order
 abbrev pub InDeckOrder : List ℕ → Type 0
 InDeckOrder text =
     let rows = rowsOf text in IsStableOrder (lightnessAt rows) (length rows) (lightnessOrder rows)
+
+-- ---- the deck of a text, in a list with room for any
+
+-- the refusal, the first that applies of 14, 15, 16, 6 and 7; and the swatches where there is none. What the list holds past
+-- them, or on a refusal, is left open
+pub record IsLabDeck (text : List ℕ) (r : LabDeck) : Type 0 where
+  pub refusal : r .refusal ≡ textRefusal text
+  pub is : textRefusal text ≡ 0 → take (r .count) (r .swatches) ≡ swatchesOf text
+  pub none : (textRefusal text ≡ 0 → ⊥) → r .count ≡ 0
+  pub most : r .count ≤ mostSwatches
+  pub size : length (r .swatches) ≡ mostSwatches
 
 -- ---- lent columns
 

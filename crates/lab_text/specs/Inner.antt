@@ -12,7 +12,7 @@ use Rattle.sample.specs.Refusals.{firstOf, firstRefusal}
 use Rattle.deck.specs.Deck.{mostSwatches}
 use Rattle.swatches.specs.Swatches.{all, isWithin, byLightness}
 use Rattle.lab_text.specs.Fields.{wordsOf, isNumber, numberIn, isCode, isValue, valueIn, isNames, orderOf, isSets, setsIn, isRow, rowIn}
-use Rattle.lab_text.specs.Text.{lineAt, bodyOf, rowOrder, isHead, rowLines, ends, textRefusal, swatchesOf}
+use Rattle.lab_text.specs.Text.{lineAt, bodyOf, rowOrder, isHead, rowLines, ends}
 use Rattle.lab_text.specs.declared.fields.Number.{Number}
 use Rattle.lab_text.specs.declared.fields.Code.{Code}
 use Rattle.lab_text.specs.declared.fields.Value.{Value}
@@ -101,10 +101,3 @@ pub record IsChecked (sets : ℕ) (t : Table) (r : LabDeck) : Type 0 where
   pub none : (r .refusal ≡ 0 → ⊥) → r .count ≡ 0
   pub count : r .refusal ≡ 0 → r .count ≡ t .count
   pub is : r .refusal ≡ 0 → take (r .count) (r .swatches) ≡ byLightness (take (t .count) (t .swatches))
-
-pub record IsLabDeck (text : List ℕ) (r : LabDeck) : Type 0 where
-  pub refusal : r .refusal ≡ textRefusal text
-  pub most : r .count ≤ mostSwatches
-  pub size : length (r .swatches) ≡ mostSwatches
-  pub none : (textRefusal text ≡ 0 → ⊥) → r .count ≡ 0
-  pub is : textRefusal text ≡ 0 → take (r .count) (r .swatches) ≡ swatchesOf text

@@ -3,8 +3,8 @@
 ghost use mathlib.Core.Path.{_≡_};
 ghost use lib.ListN.{length};
 ghost use Rattle.deck.specs.Deck.{mostSwatches};
-ghost use Rattle.lab_text.specs.Imports.{lent, Imports};
-ghost use Rattle.lab_text.specs.Inner.{rowsRefusal, IsChecked, IsLabDeck};
+ghost use Rattle.lab_text.specs.Imports.{IsLabDeck, lent, Imports};
+ghost use Rattle.lab_text.specs.Inner.{rowsRefusal, IsChecked};
 
 mod fields;
 mod head;

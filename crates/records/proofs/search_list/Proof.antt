@@ -64,8 +64,8 @@ use Rattle.deck.specs.Search.{Searches}
 use Rattle.deck.specs.declared.Found.{Found}
 use Rattle.deck.proofs.Found as F
 use Rattle.deck.proofs.Found.Laws as F′
-use Rattle.records.specs.declared.Swatch.{Swatch}
-use Rattle.records.specs.Records.{recordsDeck}
+use Rattle.swatches.specs.declared.Swatch.{Swatch}
+use Rattle.swatches.specs.Swatches.{deckOf}
 use Rattle.records.specs.Inner.{atMost}
 use Rattle.records.proofs.RecordsLaws.{at-most-most, take-at-most}
 use Rattle.records.proofs.Walking.{R, vals, tells, arrayOf, array-typed-at, array-laid, array-lifted, row-cut, row-join, AtMost, calls-at-most}
@@ -178,7 +178,7 @@ module _ {M : Type 1} (𝓤 : URA M) (H : Heap 𝓤) (A : Atoms 𝓤) (W : Given
     Last = Lasts search′.ended ((α ∷ []), (κ, tt)) passed
 
     abbrev Says : Found → Last → Type 0
-    Says r zs = Searches query (recordsDeck ys) (places .now) (zs .1 .1 .1 .1 .0) r
+    Says r zs = Searches query (deckOf ys) (places .now) (zs .1 .1 .1 .1 .0) r
 
     lent-long : length ys ≡ m
     lent-long = length-take-le m list (omega (arith, at-most-most n, list-long))
@@ -189,7 +189,7 @@ module _ {M : Type 1} (𝓤 : URA M) (H : Heap 𝓤) (A : Atoms 𝓤) (W : Given
         (omega arith, omega arith)
 
   -- from what is had at exit to the `post`
-  exits : (m : ℕ) → m ≡ atMost n → (r : Found) (u : Val) (zs : List ℕ) → Searches query (recordsDeck (take m list)) (places .now) zs r
+  exits : (m : ℕ) → m ≡ atMost n → (r : Found) (u : Val) (zs : List ℕ) → Searches query (deckOf (take m list)) (places .now) zs r
       → length zs ≡ length (places .now)
       → ent 𝓤 (⋆ 𝓤 H A ((‵ (flft κ q) ⊛ ‵ ftrue) ∷ ‵ (finally u16 (places .name) zs) ∷ ‵ (F.the-row .own r (u ∷ [])) ∷ [])) (Post u)
   exits m m-is r u zs found l =
@@ -197,7 +197,7 @@ module _ {M : Type 1} (𝓤 : URA M) (H : Heap 𝓤) (A : Atoms 𝓤) (W : Given
       qed W ((‵ (flft κ q) ⊛ ‵ ftrue) ∷ ‵ (finally u16 (places .name) zs) ∷ ‵ (F.the-row .own r (u ∷ [])) ∷ []) ∵
       suffices ! _ (ends-at 𝓤 H A search-list.ended stayed (search-list.clauses 𝓤 H A mem run) W (((κ, tt), (q, tt), tt, x, given), tt) u r
       (tt, (tt, (tt, (tt, (tt, (zs, tt)))))) (tt, (tt, (tt, (tt, (tt, (l, tt))))))) $
-      says ! (subst (λ (ws : List Swatch). Searches query (recordsDeck ws) (places .now) zs r) same found) $
+      says ! (subst (λ (ws : List Swatch). Searches query (deckOf ws) (places .now) zs r) same found) $
       frame ! $ nothing ! $ move ! (1 ∷ 0 ∷ []) $ fjoin ! $
       nothing ! $ fjoin ! $ nothing ! $ fjoin ! $ nothing ! $ fjoin ! $ nothing ! $ fjoin ! $ nothing ! $ fjoin ! $ done !
 
