@@ -121,6 +121,14 @@ pub minus-positive : (v : Int) → v .neg ≡ false → [] ≡ minusOf (int v)
 unfolding minusOf
 minus-positive v e = sym (rw (int-false v e, le-ltb (v .n) 0 (omega arith)))
 
+-- the digits of a number, k of them, and a byte
+pub number-written : (n : ℕ) {k end : ℕ} {o₀ o₁ o₂ : List ℕ} {e₀ e₁ e₂ : ℕ} → k ≤ 20 → k ≡ digitCount n
+    → Written o₀ e₀ (lastDigits k n) k o₁ e₁ → Written o₁ e₁ (end ∷ []) 1 o₂ e₂
+    → Written o₀ e₀ (digitsOf n ++ (end ∷ [])) 21 o₂ e₂
+unfolding digitsOf digitCount
+number-written n {k} {end} few e digits last =
+    written-is (ap (λ m. lastDigits m n ++ (end ∷ [])) e) (written-most (written-append digits last) (omega arith))
+
 pub fixed-written : (z : ℤ) (n places end : ℕ) {p k : ℕ} {o₀ o₁ o₂ o₃ o₄ o₅ : List ℕ} {e₀ e₁ e₂ e₃ e₄ e₅ : ℕ}
     → natAbs z ≡ n → p ≡ 10 ^ places → k ≡ digitCount (n / p) → k + places ≤ 20
     → Written o₀ e₀ (minusOf z) 1 o₁ e₁ → Written o₁ e₁ (lastDigits k (n / p)) k o₂ e₂ → Written o₂ e₂ (46 ∷ []) 1 o₃ e₃

@@ -7,7 +7,7 @@ ghost use lib.ListN.{length, drop};
 ghost use Rattle.signed.specs.Inner.{int};
 ghost use Rattle.buffer.specs.Writing.{Written};
 ghost use Rattle.decimal.specs.Reading.{runOf, wholeRun, decimalOf, afterSpace};
-ghost use Rattle.decimal.specs.Writing.{lastDigits, minusOf, fixedText};
+ghost use Rattle.decimal.specs.Writing.{lastDigits, digitsOf, minusOf, fixedText};
 ghost use Rattle.decimal.specs.Inner.{digitCount, StartsAt, DigitAt, DigitsRead, DecimalRead};
 use signed::Int;
 
@@ -189,5 +189,14 @@ pub fn put_fixed(out: &mut [u8], at: usize, v: Int, places: usize, end: u8) -> u
     let point = put_last_digits(out, first, digit_count(whole), whole);
     let decimals = buffer::put_byte(out, point, b'.');
     let last = put_last_digits(out, decimals, places, v.n);
+    buffer::put_byte(out, last, end)
+}
+
+// n, and the byte `end`.
+pub fn put_number(out: &mut [u8], at: usize, n: u64, end: u8) -> usize
+    requires { ⌜ at + 21 ≤ length (now out) ⌝ }
+    ensures { λ r. ⌜ Written (now (out .entry)) at (digitsOf n ++ (end ∷ [])) 21 (now (out .exit)) r ⌝ }
+{
+    let last = put_last_digits(out, at, digit_count(n), n);
     buffer::put_byte(out, last, end)
 }
