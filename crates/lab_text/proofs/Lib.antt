@@ -5,3 +5,4 @@ mod RowLaws
 pub mod ReadLaws
 pub mod TextLaws
 pub mod ImportLaws
+mod Examples

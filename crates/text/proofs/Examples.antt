@@ -8,8 +8,9 @@ use Rattle.text.specs.Figures.{figuresText, refusedText, headerText}
 use Rattle.decimal.specs.Reading.{found, runOn, runOf, fractionRun, fractionOf, wholeRun, decimalOf, afterSpace}
 use Rattle.text.specs.Line.{readColour, readPair}
 use Rattle.sample.specs.Sample.{colourRefusal, colourSample}
+use Rattle.buffer.specs.Parts.{startWith}
 use Rattle.text.specs.Text.{plainWeights, figuresList, figuresLine, pairAnswer, answerOf, heldOf, heldAnswer}
-use Rattle.text.specs.Text.{answersOf, startWith, linesOf, textOf}
+use Rattle.text.specs.Text.{answersOf, linesOf, textOf}
 use Rattle.isqrt.specs.Root.{nextRoot, rootIn, rootOf}
 use Rattle.gaussian.specs.Gaussian.{terms, expSeries, gaussianEntry, gaussianBetween, gaussianOf}
 use Rattle.sine.specs.Sine.{unit, pi, alternating, series, sineEntry, interpolated, sineQuarter, sineHalf, sineTurn, sineOf, cosineOf}

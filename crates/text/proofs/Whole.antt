@@ -11,7 +11,8 @@ use lib.ListN.{length, take, drop}
 use lib.Seq.{sets-eq, take-append-seam, length-take-le}
 use Rattle.buffer.specs.Writing.{Written}
 use Rattle.text.specs.Figures.{headerText}
-use Rattle.text.specs.Text.{lineMost, Held, part, tooLong, heldOf, heldAnswer, startWith, linesOf, answersOf, textOf}
+use Rattle.buffer.specs.Parts.{startWith}
+use Rattle.text.specs.Text.{lineMost, Held, part, tooLong, heldOf, heldAnswer, linesOf, answersOf, textOf}
 use Rattle.text.specs.Stream.{heldWith, heldAfter, heldText, lastText, stateOf, textSoFar, heldIn, Stepped, Follows}
 use Rattle.text.specs.declared.Progress.{Progress}
 use Rattle.text.proofs.Holding.{held-part, held-long, with-of}

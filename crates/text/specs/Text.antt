@@ -5,6 +5,7 @@ use Prim.Native.Nat.{ℕ}
 use lib.Dec.{ltb, eqb}
 use lib.ListN.{length}
 use lib.IntN.{ℤ, pos}
+use Rattle.buffer.specs.Parts.{startWith}
 use Rattle.sample.specs.Sample.{Sample, Colour, colourRefusal, colourSample}
 use Rattle.sample.specs.Refusals.{firstOf}
 use Rattle.sample.specs.declared.FixedWeights.{FixedWeights}
@@ -58,11 +59,6 @@ heldAnswer tooLong = refusedText 9
 unfoldable pub answersOf : List (List ℕ) → List ℕ
 answersOf [] = []
 answersOf (l ∷ ls) = heldAnswer (heldOf l) ++ answersOf ls
-
--- b comes before the first line
-unfoldable pub startWith : ℕ → List (List ℕ) → List (List ℕ)
-startWith b [] = (b ∷ []) ∷ []
-startWith b (l ∷ ls) = (b ∷ l) ∷ ls
 
 -- a newline ends a line, and the last line may lack it
 unfoldable pub linesOf : List ℕ → List (List ℕ)
