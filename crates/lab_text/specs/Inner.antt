@@ -8,7 +8,7 @@ use lib.ListN.{length, take, drop}
 use mir.Syntax.{w32}
 use mir.Val.{SFits}
 use Rattle.buffer.specs.Inner.{partsFrom}
-use Rattle.sample.specs.Refusals.{firstOf, firstRefusal}
+use Rattle.sample.specs.Refusals.{firstRefusal}
 use Rattle.deck.specs.Deck.{mostSwatches}
 use Rattle.swatches.specs.Swatches.{all, isWithin, byLightness}
 use Rattle.lab_text.specs.Fields.{wordsOf, isNumber, numberIn, isCode, isValue, valueIn, isNames, orderOf, isSets, setsIn, isRow, rowIn}
@@ -85,17 +85,14 @@ pub record TableRead (o : Order) (body : List (List ℕ)) (r : Table) : Type 0 w
   pub within : r .right ≡ true → r .within ≡ all isWithin (map (rowIn o) (rowLines body))
   pub is : r .right ≡ true → r .count ≤ mostSwatches → take (r .count) (r .swatches) ≡ map (rowIn o) (rowLines body)
 
--- the first that applies of 15, 16, 6 and 7, and of 14 before them, where END_DATA does not end the text
-unfoldable pub rowsRefusal : Bool → ℕ → ℕ → Bool → ℕ
-rowsRefusal right count sets within =
+-- the first that applies to a text whose first five lines are right, from what its tests found
+unfoldable pub tableRefusal : Bool → Bool → ℕ → ℕ → Bool → ℕ
+tableRefusal ended right count sets within =
     firstRefusal
-    (cond right 0 15 ∷ cond (eqb count sets) 0 16 ∷ cond (leb count mostSwatches) 0 6 ∷ cond within 0 7 ∷ [])
-
-unfoldable pub tableRefusal : ℕ → Table → ℕ
-tableRefusal sets t = firstOf (cond (t .ended) 0 14) (rowsRefusal (t .right) (t .count) sets (t .within))
+    (cond ended 0 14 ∷ cond right 0 15 ∷ cond (eqb count sets) 0 16 ∷ cond (leb count mostSwatches) 0 6 ∷ cond within 0 7 ∷ [])
 
 pub record IsChecked (sets : ℕ) (t : Table) (r : LabDeck) : Type 0 where
-  pub refusal : r .refusal ≡ tableRefusal sets t
+  pub refusal : r .refusal ≡ tableRefusal (t .ended) (t .right) (t .count) sets (t .within)
   pub most : r .count ≤ mostSwatches
   pub size : length (r .swatches) ≡ mostSwatches
   pub none : (r .refusal ≡ 0 → ⊥) → r .count ≡ 0

@@ -27,17 +27,18 @@ lineAt text k = getD (linesOf text) k []
 abbrev pub bodyOf : List ℕ → List (List ℕ)
 bodyOf text = drop 5 (linesOf text)
 
+-- nothing is left but the empty part after the last newline
+abbrev pub isEnd : List (List ℕ) → Bool
+isEnd [] = false
+isEnd (p ∷ []) = isEmpty p
+isEnd (p ∷ (q ∷ ps)) = false
+
 -- the rows: the lines before the first END_DATA
 unfoldable pub rowLines : List (List ℕ) → List (List ℕ)
 rowLines [] = []
 rowLines (l ∷ ls) = cond (same l endData) [] (l ∷ rowLines ls)
 
 -- whether there is an END_DATA, and nothing but its newline after the first one
-abbrev pub isEnd : List (List ℕ) → Bool
-isEnd [] = false
-isEnd (p ∷ []) = isEmpty p
-isEnd (p ∷ (q ∷ ps)) = false
-
 unfoldable pub ends : List (List ℕ) → Bool
 ends [] = false
 ends (l ∷ ls) = cond (same l endData) (isEnd ls) (ends ls)

@@ -1,10 +1,11 @@
 // The colour lab's text, of CGATS form: what is refused of it, and the swatches that it lists, put in
 // rising lightness. specs/Text.antt has the form line by line.
 ghost use mathlib.Core.Path.{_≡_};
+ghost use mathlib.Core.Bool.{cond};
 ghost use lib.ListN.{length};
 ghost use Rattle.deck.specs.Deck.{mostSwatches};
 ghost use Rattle.lab_text.specs.Imports.{IsLabDeck, lent, Imports};
-ghost use Rattle.lab_text.specs.Inner.{rowsRefusal, IsChecked};
+ghost use Rattle.lab_text.specs.Inner.{tableRefusal, IsChecked};
 
 mod fields;
 mod head;
@@ -22,23 +23,25 @@ pub struct LabDeck {
     pub swatches: [Swatch; deck::MOST_SWATCHES],
 }
 
-// The first that applies of 15, 16, 6 and 7, or 0.
-fn rows_refusal(right: bool, count: usize, sets: usize, within: bool) -> u8
-    ensures { λ r. ⌜ r ≡ rowsRefusal right count sets within ⌝ }
+// Refusal n of a test that was not passed, or 0.
+fn unless(passed: bool, n: u8) -> u8
+    ensures { λ r. ⌜ r ≡ cond passed 0 n ⌝ }
 {
-    if right {
-        if count == sets {
-            if count <= deck::MOST_SWATCHES {
-                if within {
-                    return 0;
-                }
-                return 7;
-            }
-            return 6;
-        }
-        return 16;
-    }
-    15
+    if passed { 0 } else { n }
+}
+
+// The first that applies of 14, 15, 16, 6 and 7, or 0.
+fn table_refusal(ended: bool, right: bool, count: usize, sets: usize, within: bool) -> u8
+    ensures { λ r. ⌜ r ≡ tableRefusal ended right count sets within ⌝ }
+{
+    let by_form = unless(ended, 14);
+    let by_row = unless(right, 15);
+    let by_sets = unless(count == sets, 16);
+    let by_size = unless(count <= deck::MOST_SWATCHES, 6);
+    let by_limits = unless(within, 7);
+    let by_deck = sample::first_of(by_size, by_limits);
+    let by_rows = sample::first_of(by_sets, by_deck);
+    sample::first_of(by_form, sample::first_of(by_row, by_rows))
 }
 
 // A text that is refused.
@@ -58,20 +61,17 @@ fn checked(sets: usize, t: Table) -> LabDeck
     requires { ⌜ length (t .swatches) ≡ mostSwatches ⌝ }
     ensures { λ r. ⌜ IsChecked sets t r ⌝ }
 {
-    if t.ended {
-        let refusal = rows_refusal(t.right, t.count, sets, t.within);
-        if refusal == 0 {
-            let rows = t.swatches;
-            let swatches = swatches::by_lightness(rows, t.count);
-            return LabDeck {
-                refusal: 0,
-                count: t.count,
-                swatches,
-            };
-        }
+    let refusal = table_refusal(t.ended, t.right, t.count, sets, t.within);
+    if refusal != 0 {
         return refused(refusal);
     }
-    refused(14)
+    let rows = t.swatches;
+    let swatches = swatches::by_lightness(rows, t.count);
+    LabDeck {
+        refusal: 0,
+        count: t.count,
+        swatches,
+    }
 }
 
 // The deck of a text.

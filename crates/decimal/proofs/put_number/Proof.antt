@@ -14,7 +14,6 @@ few c =
     omega (arith, c .digit-count .ensures, count-below 19 (x .args .n) n)
 
 returns : tie.Need-returns
-
 returns c =
     let end = c .before .before in
     let digits = end .before .before .before .before in
