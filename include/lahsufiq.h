@@ -13,8 +13,11 @@
  *  11  its version is not 1 or incomplete
  *  12  its length is not 7 + 12 x count, or the count is incomplete
  *  13  a list has too little room for the file or for the swatches
- * The first that applies, in the order sample 1, sample 2, weights, tolerance, file (10, 11, 12), deck
- * (6, 7), room. A float is held to its limits at its exact value, and then rounded to the nearest whole
+ *  14  in the lab's text a keyword or a name is missing or unknown, or anything else is wrong outside the rows
+ *  15  a row of it is not four fields of the right form
+ *  16  its number of rows is not NUMBER_OF_SETS
+ * The first that applies, in the order sample 1, sample 2, weights, tolerance, file (10, 11, 12), text (14,
+ * 15, 16), deck (6, 7), room. A float is held to its limits at its exact value, and then rounded to the nearest whole
  * number of 1/10,000, a half to the even one. Sample 1 is the standard. Results come through the
  * pointers; on a refusal each is 0, and a list keeps its contents. No pointer may be null, not even that
  * of a list of length 0, and what is written may not overlap any other argument.
@@ -91,8 +94,7 @@ uint32_t lq_deck_read(const uint8_t *file, size_t length, int32_t *l, size_t l_r
  * and one to four digits, exact in 1/10,000. The swatches stand at the front of four columns in rising
  * lightness, those of equal lightness in the order of their rows; each column needs room for all, and
  * entries past them keep their contents. `*count` is the number of swatches. The columns l, a and b then
- * hold a deck that lq_search accepts. Refusals 14 (anything wrong outside the rows), 15 (a row malformed),
- * 16 (the number of rows is not NUMBER_OF_SETS), then 6 and 7, then 13. */
+ * hold a deck that lq_search accepts. Refusals 14, 15, 16, then 6 and 7, then 13. */
 uint32_t lq_import(const uint8_t *text, size_t length, uint32_t *code, size_t code_room, int32_t *l, size_t l_room,
                    int32_t *a, size_t a_room, int32_t *b, size_t b_room, size_t *count);
 
