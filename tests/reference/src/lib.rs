@@ -7,6 +7,8 @@ pub mod deck;
 pub mod deck_file;
 pub mod double;
 pub mod floats;
+pub mod lab_cases;
+pub mod lab_text;
 pub mod random;
 pub mod tables;
 pub mod tally;
