@@ -202,10 +202,13 @@ fn refusals_by_hand(t: &mut Tally) {
     t.report("refusals by hand");
 }
 
-/// Rows with these lightnesses; the other words tell them apart.
+/// Rows with these lightnesses, all of four decimals; the other words tell them apart.
 fn sequence(lightness: impl IntoIterator<Item = i32>) -> Vec<Row> {
-    let place = |grid: i32| cases::decimals(grid).pop().expect("a decimal");
-    let row = |(i, l): (usize, i32)| [i.to_string(), place(l), place(i as i32), place(-(i as i32))];
+    let row = |(i, l): (usize, i32)| {
+        let (whole, fraction) = (i / 10_000, i % 10_000);
+        let (a, b) = (format!("{whole}.{fraction:04}"), format!("-{whole}.{fraction:04}"));
+        [i.to_string(), format!("{}.{:04}", l / 10_000, l % 10_000), a, b]
+    };
     lightness.into_iter().enumerate().map(row).collect()
 }
 
@@ -519,10 +522,6 @@ fn combinations(t: &mut Tally) {
                     let first = faults.iter().find(|(there, _)| *there).map_or(0, |(_, refusal)| *refusal);
                     let about = (count, "rows", sets, "sets", wrong, outside);
                     holds(t, about, &text, rooms, first);
-                    // with all the other faults, the room makes no difference
-                    if first != 0 && first != 13 {
-                        break;
-                    }
                 }
             }
         }
@@ -616,22 +615,25 @@ fn sorting(t: &mut Tally, r: &mut Random) {
 /// Random texts, most of them damaged, in random rooms.
 fn random_texts(t: &mut Tally, r: &mut Random) {
     const TEXTS: usize = 150_000;
+    let orders = cases::orders();
+    let mut answers = [0; 17];
     for i in 0..TEXTS {
-        let text = cases::damaged(8, r);
+        let text = cases::damaged(&orders, 8, r);
         let rooms = if r.one_in(4) { [0; 4].map(|_| r.below(12)) } else { [9; 4].map(|room| room + r.below(3)) };
-        import(t, i, &text, rooms);
+        answers[import(t, i, &text, rooms) as usize] += 1;
     }
-    t.report(&format!("{TEXTS} random texts of 0 to 8 rows, most of them damaged"));
-    const LARGE: usize = 300;
+    let refused = [14, 15, 16, 7, 13].map(|refusal| format!("{} with {refusal}", answers[refusal])).join(", ");
+    t.report(&format!("{TEXTS} random texts of 0 to 8 rows, {} accepted, refused {refused}", answers[0]));
+    const LARGE: usize = 200;
     for i in 0..LARGE {
-        let text = cases::damaged(LARGEST, r);
+        let text = cases::damaged(&orders, LARGEST, r);
         import(t, i, &text, [LARGEST + 1; 4]);
     }
     t.report(&format!("{LARGE} random texts of up to {LARGEST} rows, most of them damaged"));
     const FULL: usize = 40;
     for i in 0..FULL {
         let rows = cases::rows(if i % 2 == 0 { Sort::Ties } else { Sort::Anywhere }, LARGEST, r);
-        let text = cases::whole(r.pick(&cases::orders()), &rows);
+        let text = cases::whole(r.pick(&orders), &rows);
         holds(t, i, &text, [LARGEST, LARGEST + 1, LARGEST, LARGEST + 2], 0);
     }
     t.report(&format!("{FULL} texts of {LARGEST} rows"));

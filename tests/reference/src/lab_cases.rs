@@ -34,29 +34,37 @@ pub fn whole(order: [usize; 4], rows: &[Row]) -> Vec<u8> {
     text(&lines(order, &rows.len().to_string(), rows))
 }
 
-/// Every decimal that shows a number of 1/10,000.
-pub fn decimals(grid: i32) -> Vec<String> {
+/// The decimal of a number of 1/10,000 with this sign, so many digits and so many decimals.
+fn form(grid: i32, sign: &str, digits: usize, places: usize) -> String {
     let (whole, fraction) = (grid.abs() / 10_000, format!("{:04}", grid.abs() % 10_000));
-    let signs: &[&str] = if grid < 0 { &["-"] } else { &["", "-"][..if grid == 0 { 2 } else { 1 }] };
-    let shortest = fraction.trim_end_matches('0').len();
-    let mut all = Vec::new();
-    for sign in signs {
-        for digits in whole.to_string().len()..=3 {
-            if shortest == 0 {
-                all.push(format!("{sign}{whole:0digits$}"));
-            }
-            for places in shortest.max(1)..=4 {
-                all.push(format!("{sign}{whole:0digits$}.{}", &fraction[..places]));
-            }
-        }
-    }
-    all
+    let point = if places == 0 { "" } else { "." };
+    format!("{sign}{whole:0digits$}{point}{}", &fraction[..places])
 }
 
-/// A decimal that shows a number of 1/10,000.
+/// The signs, and the fewest digits and decimals, that a number of 1/10,000 may have.
+fn fewest(grid: i32) -> (&'static [&'static str], usize, usize) {
+    let signs: &[&str] = match grid {
+        ..0 => &["-"],
+        0 => &["", "-"],
+        _ => &[""],
+    };
+    let digits = 1 + (grid.abs() >= 100_000) as usize + (grid.abs() >= 1_000_000) as usize;
+    let places = [10_000, 1_000, 100, 10, 1].iter().position(|unit| grid % unit == 0).expect("1 divides it");
+    (signs, digits, places)
+}
+
+/// Every decimal that shows a number of 1/10,000.
+pub fn decimals(grid: i32) -> Vec<String> {
+    let (signs, digits, places) = fewest(grid);
+    let lengths = (digits..=3).flat_map(|digits| (places..=4).map(move |places| (digits, places)));
+    lengths.flat_map(|(digits, places)| signs.iter().map(move |sign| form(grid, sign, digits, places))).collect()
+}
+
+/// One of them.
 pub fn decimal(grid: i32, r: &mut Random) -> String {
-    let all = decimals(grid);
-    all[r.below(all.len())].clone()
+    let (signs, digits, places) = fewest(grid);
+    let sign = r.pick(signs);
+    form(grid, sign, digits + r.below(4 - digits), places + r.below(5 - places))
 }
 
 /// A code, often with leading zeros.
@@ -198,10 +206,14 @@ pub fn damage_bytes(text: &mut Vec<u8>, r: &mut Random) {
     }
 }
 
-/// A text of up to `most` rows with none to three damages.
-pub fn damaged(most: usize, r: &mut Random) -> Vec<u8> {
-    let (sort, count, order) = (r.pick(&SORTS), r.below(most + 1), r.pick(&orders()));
-    let rows = rows(sort, count, r);
+/// A text of up to `most` rows, its names in one of the orders, with none to three damages.
+pub fn damaged(orders: &[[usize; 4]], most: usize, r: &mut Random) -> Vec<u8> {
+    let (sort, count) = (r.pick(&SORTS), r.below(most + 1));
+    let (order, mut rows) = (orders[r.below(orders.len())], rows(sort, count, r));
+    if count > 0 && r.one_in(10) {
+        let beyond = r.pick(&[-9_999_999, -1_280_001, 1_280_001, 2_000_000, 9_999_999]);
+        rows[r.below(count)][1 + r.below(3)] = decimal(beyond, r);
+    }
     let digits = r.pick(&[1, 1, 1, 2, 5]);
     let sets = if r.one_in(20) { r.below(count + 3) } else { count };
     let mut lines = lines(order, &format!("{sets:0digits$}"), &rows);
