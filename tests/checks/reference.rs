@@ -178,8 +178,10 @@ fn lab_texts(t: &mut Tally) {
         (plain, "00002", "2 50 1 1\n1 050.0 0 0\n", "2 50.0000 1.0000 1.0000\n1 50.0000 0.0000 0.0000\n"),
         (mixed, "1", "-128 0004294967 100.0 0.0001\n", "4294967 100.0000 0.0001 -128.0000\n"),
         (mixed, "1", "128.0 4294967295 0 -0.01\n", "4294967295 0.0000 -0.0100 128.0000\n"),
+        (plain, "4096", &"1 2 3 4\n".repeat(4096), &"1 2.0000 3.0000 4.0000\n".repeat(4096)),
         // one for each refusal
         ("SAMPLE_ID LAB_L LAB_A", "1", "1 2 3 4\n", "refused 14\n"),
+        ("SAMPLE_ID LAB_L LAB_A LAB_B LAB_B", "1", "1 2 3 4\n", "refused 14\n"),
         ("SAMPLE_ID LAB_L LAB_A LAB_L", "1", "1 2 3 4\n", "refused 14\n"),
         ("SAMPLE_ID  LAB_L LAB_A LAB_B", "1", "1 2 3 4\n", "refused 14\n"),
         (plain, "000001", "1 2 3 4\n", "refused 14\n"),

@@ -9,6 +9,7 @@ pub mod double;
 pub mod floats;
 pub mod lab_cases;
 pub mod lab_text;
+pub mod program;
 pub mod random;
 pub mod tables;
 pub mod tally;
