@@ -107,7 +107,7 @@ fn holds(t: &mut Tally, what: impl Debug, text: &[u8], rooms: [usize; 4], refusa
     }
 }
 
-/// A text by hand. The lightnesses of its last two rows and their decimals are close.
+/// A text by hand, with two rows of one lightness.
 const TEXT: &[u8] = b"BEGIN_DATA_FORMAT
 LAB_B SAMPLE_ID LAB_L LAB_A
 END_DATA_FORMAT
@@ -164,27 +164,40 @@ const ROWS: &[(&str, &str, u32)] = &[
     ("1", "x\n1 101 0 0\n", 15),
 ];
 
-/// Texts with the refusal by hand, the most of them 14.
+/// The lines before the rows, where there are none.
+const HEAD: &str = "BEGIN_DATA_FORMAT
+SAMPLE_ID LAB_L LAB_A LAB_B
+END_DATA_FORMAT
+NUMBER_OF_SETS 0
+BEGIN_DATA
+";
+
+/// Texts with the refusal by hand; @ stands for HEAD.
 #[rustfmt::skip]
 const TEXTS: &[(&str, u32)] = &[
-    ("", 14), ("\n", 14), ("END_DATA\n", 14), ("END_DATA", 14), ("BEGIN_DATA_FORMAT\n", 14), ("BEGIN_DATA\nEND_DATA\n", 14),
-    ("BEGIN_DATA_FORMAT\nEND_DATA\nEND_DATA_FORMAT\nNUMBER_OF_SETS 0\nBEGIN_DATA\nEND_DATA\n", 14),
-    ("BEGIN_DATA_FORMAT\nSAMPLE_ID LAB_L LAB_A LAB_B\nEND_DATA_FORMAT\nNUMBER_OF_SETS 0\nBEGIN_DATA\nEND_DATA", 14),
-    ("BEGIN_DATA_FORMAT\nSAMPLE_ID LAB_L LAB_A LAB_B\nEND_DATA_FORMAT\nNUMBER_OF_SETS 0\nBEGIN_DATA\n", 14),
-    ("BEGIN_DATA_FORMAT\nSAMPLE_ID LAB_L LAB_A LAB_B\nEND_DATA_FORMAT\nNUMBER_OF_SETS 0\nBEGIN_DATA\nx\n", 14),
-    ("BEGIN_DATA_FORMAT\nSAMPLE_ID LAB_L LAB_A LAB_B\nEND_DATA_FORMAT\nNUMBER_OF_SETS 0\nBEGIN_DATA\nx\nEND_DATA", 14),
-    ("BEGIN_DATA_FORMAT\nSAMPLE_ID LAB_L LAB_A LAB_B\nEND_DATA_FORMAT\nNUMBER_OF_SETS 0\nBEGIN_DATA\nEND_DATA\n\n", 14),
-    ("BEGIN_DATA_FORMAT\nSAMPLE_ID LAB_L LAB_A LAB_B\nEND_DATA_FORMAT\nNUMBER_OF_SETS 0\nBEGIN_DATA\nEND_DATA\n ", 14),
-    ("BEGIN_DATA_FORMAT\nSAMPLE_ID LAB_L LAB_A LAB_B\nEND_DATA_FORMAT\nNUMBER_OF_SETS 0\nBEGIN_DATA\nEND_DATA\n\0", 14),
-    ("BEGIN_DATA_FORMAT\nSAMPLE_ID LAB_L LAB_A LAB_B\nEND_DATA_FORMAT\nNUMBER_OF_SETS 0\nBEGIN_DATA\nx\nEND_DATA\nx\n", 14),
-    ("\nBEGIN_DATA_FORMAT\nSAMPLE_ID LAB_L LAB_A LAB_B\nEND_DATA_FORMAT\nNUMBER_OF_SETS 0\nBEGIN_DATA\nEND_DATA\n", 14),
-    ("BEGIN_DATA_FORMAT\nSAMPLE_ID\nLAB_L\nLAB_A\nLAB_B\nEND_DATA_FORMAT\nNUMBER_OF_SETS 0\nBEGIN_DATA\nEND_DATA\n", 14),
-    ("BEGIN_DATA_FORMAT\r\nSAMPLE_ID LAB_L LAB_A LAB_B\nEND_DATA_FORMAT\nNUMBER_OF_SETS 0\nBEGIN_DATA\nEND_DATA\n", 14),
-    ("BEGIN_DATA_FORMAT\nSAMPLE_ID LAB_L LAB_A LAB_B\nEND_DATA_FORMAT\nNUMBER_OF_SETS 0\nBEGIN_DATA\nEND_DATA\r\n", 14),
-    ("BEGIN_DATA_FORMAT\nSAMPLE_ID LAB_L LAB_A LAB_B\nEND_DATA_FORMAT\nNUMBER_OF_SETS 0\nBEGIN_DATA\nx\r\nEND_DATA\n", 15),
+    ("@END_DATA\n", 0),
+    ("", 14), ("\n", 14), ("END_DATA\n", 14), ("END_DATA", 14), ("BEGIN_DATA_FORMAT\n", 14),
+    ("BEGIN_DATA\nEND_DATA\n", 14),
+    // no END_DATA line, also where a row is malformed
+    ("@", 14), ("@END_DATA", 14), ("@x\n", 14), ("@x\nEND_DATA", 14), ("@END_DATA\r\n", 14), ("@END_DATA \n", 14),
+    // something after it
+    ("@END_DATA\n\n", 14), ("@END_DATA\n ", 14), ("@END_DATA\n\0", 14), ("@END_DATA\n\r\n", 14),
+    ("@END_DATA\n1 2 3 4\n", 14), ("@x\nEND_DATA\nx\n", 14), ("@END_DATA\nEND_DATA\n", 14), ("@END_DATA\nEND_DATA", 14),
+    ("@END_DATA\n@END_DATA\n", 14),
+    // something before the first line
+    ("\n@END_DATA\n", 14), (" @END_DATA\n", 14), ("CGATS.17\n@END_DATA\n", 14), ("\u{feff}@END_DATA\n", 14),
+    ("END_DATA\n@END_DATA\n", 14), ("@@END_DATA\n", 15), ("@x\r\nEND_DATA\n", 15),
+    // lines missing, doubled, or of another form
+    ("SAMPLE_ID LAB_L LAB_A LAB_B\nEND_DATA_FORMAT\nNUMBER_OF_SETS 0\nBEGIN_DATA\nEND_DATA\n", 14),
+    ("BEGIN_DATA_FORMAT\nEND_DATA_FORMAT\nNUMBER_OF_SETS 0\nBEGIN_DATA\nEND_DATA\n", 14),
+    ("BEGIN_DATA_FORMAT\nSAMPLE_ID LAB_L LAB_A LAB_B\nNUMBER_OF_SETS 0\nBEGIN_DATA\nEND_DATA\n", 14),
     ("BEGIN_DATA_FORMAT\nSAMPLE_ID LAB_L LAB_A LAB_B\nEND_DATA_FORMAT\nBEGIN_DATA\nEND_DATA\n", 14),
     ("BEGIN_DATA_FORMAT\nSAMPLE_ID LAB_L LAB_A LAB_B\nEND_DATA_FORMAT\nNUMBER_OF_SETS 0\nEND_DATA\n", 14),
-    ("BEGIN_DATA_FORMAT\nSAMPLE_ID LAB_L LAB_A LAB_B\nEND_DATA_FORMAT\nNUMBER_OF_SETS 0\nBEGIN_DATA\nEND_DATA\n", 0),
+    ("BEGIN_DATA_FORMAT\n@END_DATA\n", 14),
+    ("BEGIN_DATA_FORMAT\nEND_DATA\nEND_DATA_FORMAT\nNUMBER_OF_SETS 0\nBEGIN_DATA\nEND_DATA\n", 14),
+    ("BEGIN_DATA_FORMAT\nSAMPLE_ID\nLAB_L\nLAB_A\nLAB_B\nEND_DATA_FORMAT\nNUMBER_OF_SETS 0\nBEGIN_DATA\nEND_DATA\n", 14),
+    ("BEGIN_DATA_FORMAT\nSAMPLE_ID LAB_L LAB_A LAB_B\nNUMBER_OF_SETS 0\nEND_DATA_FORMAT\nBEGIN_DATA\nEND_DATA\n", 14),
+    ("BEGIN_DATA_FORMAT\r\nSAMPLE_ID LAB_L LAB_A LAB_B\nEND_DATA_FORMAT\nNUMBER_OF_SETS 0\nBEGIN_DATA\nEND_DATA\n", 14),
 ];
 
 fn refusals_by_hand(t: &mut Tally) {
@@ -196,6 +209,7 @@ fn refusals_by_hand(t: &mut Tally) {
         holds(t, "rows by hand", text.as_bytes(), [0; 4], without_room);
     }
     for (text, refusal) in TEXTS {
+        let text = text.replace('@', HEAD);
         holds(t, "a text by hand", text.as_bytes(), [9; 4], *refusal);
         holds(t, "a text by hand", text.as_bytes(), [0; 4], *refusal);
     }
@@ -359,7 +373,7 @@ fn sets(t: &mut Tally) {
         for number in [count, count + 1, count.saturating_sub(1), 10 * count, count + 65_536, 99_999, 0] {
             words.extend((0..8).map(|length| format!("{number:0length$}")));
         }
-        let right = words.clone();
+        let numbers = words.clone();
         words.extend(NO_CODES.map(str::to_string));
         for (before, after) in
             [("+", ""), ("-", ""), (" ", ""), ("", " "), ("", "\r"), ("", "\t"), ("", ".0"), ("", " 1")]
@@ -369,7 +383,7 @@ fn sets(t: &mut Tally) {
         for word in &words {
             import(t, (count, word), &cases::text(&cases::lines(PLAIN, word, &rows)), [count; 4]);
         }
-        for word in right {
+        for word in numbers {
             let number: usize = word.parse().expect("digits");
             let refusal = if word.len() > 5 {
                 14
@@ -412,7 +426,9 @@ fn small_damages(t: &mut Tally) {
             }
         }
     }
-    t.report("three small texts: every prefix and suffix, every byte at and between all places, every part cut out or doubled");
+    t.report(
+        "three small texts: every prefix and suffix, every byte in and between all places, parts cut out, doubled",
+    );
 }
 
 /// Small texts with every two bytes, words or lines exchanged, and other lines in every two places.
