@@ -133,7 +133,7 @@ fn by_hand(t: &mut Tally) {
     t.report("a text by hand");
 }
 
-/// The line after NUMBER_OF_SETS and the rows, with the refusal by hand.
+/// What follows NUMBER_OF_SETS, and the rows, with the refusal by hand.
 #[rustfmt::skip]
 const ROWS: &[(&str, &str, u32)] = &[
     ("0", "", 0), ("1", "1 2 3 4\n", 0), ("00001", "1 2 3 4\n", 0), ("2", "1 2 3 4\n1 2 3 4\n", 0),
