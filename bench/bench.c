@@ -395,11 +395,151 @@ static void bench_files(void) {
                times[2][job] / times[1][job]);
 }
 
+/* --- the lab's text --- */
+
+enum { HEAD_LINES = 5, MOST_ROW = 41, MOST_TEXT = 256 + MOST_ROW * MOST_SWATCHES, IMPORTS = 40 };
+
+typedef struct {
+    size_t size;
+    uint32_t code[MOST_SWATCHES];
+    int32_t l[MOST_SWATCHES], a[MOST_SWATCHES], b[MOST_SWATCHES];
+} Imported;
+
+typedef size_t (*Importer)(const char *text, size_t length, Imported *to);
+
+/* Each gives the number of swatches, or SIZE_MAX for a refused text. */
+static size_t import_proved(const char *text, size_t length, Imported *to) {
+    uint32_t refusal = lq_import((const uint8_t *)text, length, to->code, MOST_SWATCHES, to->l, MOST_SWATCHES, to->a,
+                                 MOST_SWATCHES, to->b, MOST_SWATCHES, &to->size);
+    return refusal ? SIZE_MAX : to->size;
+}
+
+typedef struct {
+    uint32_t code;
+    int32_t lab[3];
+    int row;
+} Record;
+
+static int by_lightness_then_row(const void *x, const void *y) {
+    const Record *a = x, *b = y;
+    return a->lab[0] != b->lab[0] ? (a->lab[0] > b->lab[0]) - (a->lab[0] < b->lab[0]) : a->row - b->row;
+}
+
+/* The next line without its newline, in `line`; NULL where there is none, or where it is too long. */
+static const char *next_line(const char *text, const char *end, char line[128]) {
+    const char *newline = memchr(text, '\n', (size_t)(end - text));
+    if (!newline || newline - text > 127) return NULL;
+    memcpy(line, text, (size_t)(newline - text));
+    line[newline - text] = 0;
+    return newline + 1;
+}
+
+/* The same text as one would read it: lines, strcmp, strtoul, strtod, qsort. It believes more than the
+ * library does, as such programs do: fields of any form that strtod takes, spaces of any number. */
+static size_t import_plain(const char *text, size_t length, Imported *to) {
+    static const char *NAMES[4] = {"SAMPLE_ID", "LAB_L", "LAB_A", "LAB_B"};
+    static Record records[MOST_SWATCHES];
+    const char *end = text + length;
+    char line[128];
+    int field[4];
+    size_t count = 0, sets;
+    if (!(text = next_line(text, end, line)) || strcmp(line, "BEGIN_DATA_FORMAT")) return SIZE_MAX;
+    if (!(text = next_line(text, end, line))) return SIZE_MAX;
+    char *word = strtok(line, " ");
+    for (int i = 0; i < 4; i++, word = strtok(NULL, " ")) {
+        field[i] = 0;
+        while (word && field[i] < 4 && strcmp(word, NAMES[field[i]])) field[i]++;
+        if (!word || field[i] == 4) return SIZE_MAX;
+    }
+    if (!(text = next_line(text, end, line)) || strcmp(line, "END_DATA_FORMAT")) return SIZE_MAX;
+    if (!(text = next_line(text, end, line)) || strncmp(line, "NUMBER_OF_SETS ", 15)) return SIZE_MAX;
+    sets = strtoul(line + 15, NULL, 10);
+    if (!(text = next_line(text, end, line)) || strcmp(line, "BEGIN_DATA")) return SIZE_MAX;
+    for (;;) {
+        if (!(text = next_line(text, end, line))) return SIZE_MAX;
+        if (!strcmp(line, "END_DATA")) break;
+        if (count == MOST_SWATCHES) return SIZE_MAX;
+        Record *record = &records[count];
+        char *at = line, *after;
+        for (int i = 0; i < 4; i++, at = after) {
+            if (field[i] == 0) {
+                unsigned long code = strtoul(at, &after, 10);
+                if (code > UINT32_MAX) return SIZE_MAX;
+                record->code = (uint32_t)code;
+            } else {
+                double x = strtod(at, &after);
+                if (field[i] == 1 ? !(x >= 0 && x <= 100) : !(fabs(x) <= 128)) return SIZE_MAX;
+                record->lab[field[i] - 1] = (int32_t)lrint(x * 1e4);
+            }
+            if (after == at) return SIZE_MAX;
+        }
+        if (*at) return SIZE_MAX;
+        record->row = (int)count++;
+    }
+    if (text != end || count != sets) return SIZE_MAX;
+    qsort(records, count, sizeof records[0], by_lightness_then_row);
+    for (size_t i = 0; i < count; i++) {
+        to->code[i] = records[i].code;
+        to->l[i] = records[i].lab[0];
+        to->a[i] = records[i].lab[1];
+        to->b[i] = records[i].lab[2];
+    }
+    return to->size = count;
+}
+
+/* A text of so many rows in no order. */
+static size_t lab_text(char text[MOST_TEXT], size_t rows) {
+    size_t length = (size_t)sprintf(text,
+                                    "BEGIN_DATA_FORMAT\nSAMPLE_ID LAB_L LAB_A LAB_B\nEND_DATA_FORMAT\n"
+                                    "NUMBER_OF_SETS %zu\nBEGIN_DATA\n",
+                                    rows);
+    for (size_t i = 0; i < rows; i++) {
+        double l = random_grid(0, 1000000) / 1e4, a = random_grid(-1000000, 1000000) / 1e4,
+               b = random_grid(-1000000, 1000000) / 1e4;
+        length += (size_t)sprintf(text + length, "%u %.4f %.4f %.4f\n", (uint32_t)next_random(), l, a, b);
+    }
+    return length + (size_t)sprintf(text + length, "END_DATA\n");
+}
+
+static bool same_import(const Imported *x, const Imported *y) {
+    size_t bytes = x->size * sizeof x->l[0];
+    return x->size == y->size && !memcmp(x->code, y->code, bytes) && !memcmp(x->l, y->l, bytes) &&
+           !memcmp(x->a, y->a, bytes) && !memcmp(x->b, y->b, bytes);
+}
+
+static void bench_imports(void) {
+    static const size_t ROWS[] = {16, 256, 4096};
+    static const Importer IMPORTER[2] = {import_proved, import_plain};
+    static char text[MOST_TEXT];
+    static Imported imported[2];
+    printf("\nOne lab text, lines a second, beside strtod and qsort (ratio: Lahsufiq's time to the other's)\n\n");
+    printf("| Rows | Bytes | Lahsufiq | strtod and qsort | to strtod and qsort |\n|---|---|---|---|---|\n");
+    for (int s = 0; s < 3; s++) {
+        size_t length = lab_text(text, ROWS[s]), lines = ROWS[s] + HEAD_LINES + 1;
+        double times[2][ROUNDS], medians[2];
+        /* small texts more often, so that a round is long enough to be timed */
+        int repeats = (int)(IMPORTS * MOST_SWATCHES / ROWS[s]);
+        for (int round = 0; round < ROUNDS; round++)
+            for (int m = 0; m < 2; m++) {
+                double began = processor_seconds();
+                size_t count = 0;
+                for (int i = 0; i < repeats; i++) count += IMPORTER[m](text, length, &imported[m]);
+                times[m][round] = (processor_seconds() - began) / repeats;
+                if (count != ROWS[s] * (size_t)repeats) fprintf(stderr, "bench: a lab text is refused\n");
+            }
+        for (int m = 0; m < 2; m++) medians[m] = median(times[m]);
+        if (!same_import(&imported[0], &imported[1])) fprintf(stderr, "bench: two imports of a lab text differ\n");
+        printf("| %zu | %zu | %.0f | %.0f | %.2f |\n", ROWS[s], length, (double)lines / medians[0],
+               (double)lines / medians[1], medians[0] / medians[1]);
+    }
+}
+
 int main(int count, char **arguments) {
     bench_pairs();
     bench_searches();
     if (count > 1) bench_program(arguments[1]);
-    /* last, so that the random data of the others do not change */
+    /* last, and in this order, so that the random data of the others do not change */
     bench_files();
+    bench_imports();
     return 0;
 }

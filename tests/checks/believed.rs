@@ -189,12 +189,13 @@ fn code(line: &str) -> &str {
 
 const MODIFIERS: [&str; 5] = ["pub", "unfoldable", "abbrev", "opaque", "irreducible"];
 
-/// Statements: a line with the lines that are further in after it.
+/// Statements: a line with the lines that are further in after it, and the brace that closes one.
 fn statements(lines: &[String]) -> Vec<Vec<String>> {
     let mut all: Vec<Vec<String>> = Vec::new();
     let base = lines.iter().map(|line| indent(line)).min().unwrap_or(0);
     for line in lines {
-        if indent(line) == base || all.is_empty() {
+        let closes = line.trim_start().starts_with('}');
+        if (indent(line) == base && !closes) || all.is_empty() {
             all.push(Vec::new());
         }
         all.last_mut().expect("a statement").push(line.clone());

@@ -3,7 +3,8 @@
 
 /* Each must be declared by the header. */
 void *declared[] = {(void *)lq_cie76,   (void *)lq_cie94,  (void *)lq_ciede2000,  (void *)lq_figures,
-                    (void *)lq_verdict, (void *)lq_search, (void *)lq_deck_write, (void *)lq_deck_read};
+                    (void *)lq_verdict, (void *)lq_search, (void *)lq_deck_write, (void *)lq_deck_read,
+                    (void *)lq_import};
 
 #include <stdbool.h>
 #include <stddef.h>
@@ -19,3 +20,5 @@ uint32_t lq_search(const int32_t *, size_t, const int32_t *, size_t, const int32
 uint32_t lq_deck_write(const int32_t *, size_t, const int32_t *, size_t, const int32_t *, size_t, uint8_t *, size_t,
                        size_t *);
 uint32_t lq_deck_read(const uint8_t *, size_t, int32_t *, size_t, int32_t *, size_t, int32_t *, size_t, size_t *);
+uint32_t lq_import(const uint8_t *, size_t, uint32_t *, size_t, int32_t *, size_t, int32_t *, size_t, int32_t *, size_t,
+                   size_t *);

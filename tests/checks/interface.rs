@@ -35,6 +35,10 @@ mod c {
             file: *const u8, length: usize, l: *mut i32, l_room: usize, a: *mut i32, a_room: usize, b: *mut i32,
             b_room: usize, count: *mut usize,
         ) -> u32;
+        pub fn lq_import(
+            text: *const u8, length: usize, code: *mut u32, code_room: usize, l: *mut i32, l_room: usize, a: *mut i32,
+            a_room: usize, b: *mut i32, b_room: usize, count: *mut usize,
+        ) -> u32;
     }
 }
 
@@ -159,6 +163,22 @@ pub fn deck_read(file: &[u8], columns: &mut [Vec<i32>; 3]) -> (u32, usize) {
     let refusal = unsafe { c::lq_deck_read(file.as_ptr(), file.len(), l, l_room, a, a_room, b, b_room, &mut count) };
     for (lent, column) in lent.into_iter().zip(columns) {
         lent.give_back("lq_deck_read", column);
+    }
+    (refusal, count)
+}
+
+/// The refusal number and the count; the columns are lent.
+pub fn import(text: &[u8], code: &mut [u32], columns: &mut [Vec<i32>; 3]) -> (u32, usize) {
+    let mut count = NUMBER_BEFORE;
+    let (code_room, [l_room, a_room, b_room]) = (code.len(), columns.each_ref().map(Vec::len));
+    let mut lent_code = Lent::new(code, 0x5a3c_5a3c);
+    let mut lent = columns.each_ref().map(|column| Lent::new(column, -0x5a3c_5a3c));
+    let (to, [l, a, b]) = (lent_code.pointer(), lent.each_mut().map(Lent::pointer));
+    let (from, length) = (text.as_ptr(), text.len());
+    let refusal = unsafe { c::lq_import(from, length, to, code_room, l, l_room, a, a_room, b, b_room, &mut count) };
+    lent_code.give_back("lq_import", code);
+    for (lent, column) in lent.into_iter().zip(columns) {
+        lent.give_back("lq_import", column);
     }
     (refusal, count)
 }

@@ -1,11 +1,12 @@
 //! Checks the reference against docs/WORKING.md: the proved table, source 001's Table I, both series,
-//! and an independent CIEDE2000 in double precision.
+//! an independent CIEDE2000 in double precision, and lines and texts by hand.
 
 use reference::calls;
 use reference::cases::{self, KINDS, Row};
 use reference::deck;
 use reference::double;
 use reference::floats::{Value, limited, value};
+use reference::lab_text;
 use reference::random::Random;
 use reference::tables;
 use reference::tally::Tally;
@@ -162,6 +163,60 @@ fn lines(t: &mut Tally) {
     t.same("no last newline", text::text_of(b"0 0 0 0 0 0"), text::text_of(b"0 0 0 0 0 0\n"));
     t.same("two blank lines", text::text_of(b"\n\n"), format!("{header}refused 9\nrefused 9\n").into_bytes());
     t.report("lines of the text program");
+}
+
+/// Texts of the lab, with what they give.
+fn lab_texts(t: &mut Tally) {
+    let text = |names: &str, sets: &str, rows: &str| {
+        format!("BEGIN_DATA_FORMAT\n{names}\nEND_DATA_FORMAT\nNUMBER_OF_SETS {sets}\nBEGIN_DATA\n{rows}END_DATA\n")
+    };
+    let (plain, mixed) = ("SAMPLE_ID LAB_L LAB_A LAB_B", "LAB_B SAMPLE_ID LAB_L LAB_A");
+    for (names, sets, rows, wanted) in [
+        (plain, "0", "", ""),
+        (plain, "1", "4711 52.5 -3.25 17.0625\n", "4711 52.5000 -3.2500 17.0625\n"),
+        (plain, "2", "2 50 0 0\n1 49.9999 -0 -0.0\n", "1 49.9999 0.0000 0.0000\n2 50.0000 0.0000 0.0000\n"),
+        (plain, "00002", "2 50 1 1\n1 050.0 0 0\n", "2 50.0000 1.0000 1.0000\n1 50.0000 0.0000 0.0000\n"),
+        (mixed, "1", "-128 0004294967 100.0 0.0001\n", "4294967 100.0000 0.0001 -128.0000\n"),
+        (mixed, "1", "128.0 4294967295 0 -0.01\n", "4294967295 0.0000 -0.0100 128.0000\n"),
+        (plain, "4096", &"1 2 3 4\n".repeat(4096), &"1 2.0000 3.0000 4.0000\n".repeat(4096)),
+        // one for each refusal
+        ("SAMPLE_ID LAB_L LAB_A", "1", "1 2 3 4\n", "refused 14\n"),
+        ("SAMPLE_ID LAB_L LAB_A LAB_B LAB_B", "1", "1 2 3 4\n", "refused 14\n"),
+        ("SAMPLE_ID LAB_L LAB_A LAB_L", "1", "1 2 3 4\n", "refused 14\n"),
+        ("SAMPLE_ID  LAB_L LAB_A LAB_B", "1", "1 2 3 4\n", "refused 14\n"),
+        (plain, "000001", "1 2 3 4\n", "refused 14\n"),
+        (plain, "1", "1 2 3 4\nEND_DATA\n", "refused 14\n"),
+        (plain, "1", "1 2 3 4.\n", "refused 15\n"),
+        (plain, "1", "1 2 3 4\r\n", "refused 15\n"),
+        (plain, "1", "4294967296 2 3 4\n", "refused 15\n"),
+        (plain, "1", "00000000001 2 3 4\n", "refused 15\n"),
+        (plain, "1", "END_DATA \n", "refused 15\n"),
+        (plain, "2", "1 2 3 4\n", "refused 16\n"),
+        (plain, "4097", &"1 2 3 4\n".repeat(4097), "refused 6\n"),
+        (plain, "1", "1 100.0001 3 4\n", "refused 7\n"),
+        (plain, "1", "1 0 -128.0001 4\n", "refused 7\n"),
+        (plain, "1", "1 0 0 999\n", "refused 7\n"),
+        // their order
+        ("", "2", "1 2\n", "refused 14\n"),
+        (plain, "1", "x\nEND_DATA\n", "refused 14\n"),
+        (plain, "2", "x\n", "refused 15\n"),
+        (plain, "2", "1 101 0 0\n", "refused 16\n"),
+        (plain, "1", &"1 101 0 0\n".repeat(4097), "refused 16\n"),
+        (plain, "4097", &"1 101 0 0\n".repeat(4097), "refused 6\n"),
+    ] {
+        let text = text(names, sets, rows);
+        t.same(("lab text", names, sets, rows.lines().next()), lab_text::listing(text.as_bytes()), wanted.to_string());
+    }
+    let small = text(plain, "2", "7 50 0 0\n8 40 0 0\n");
+    let swatches = lab_text::read(small.as_bytes()).expect("a whole text");
+    t.same("codes", swatches.iter().map(|swatch| swatch.code).collect::<Vec<_>>(), vec![8, 7]);
+    t.same("room", lab_text::import(small.as_bytes(), [2; 4]), Ok(swatches));
+    t.same("no room", lab_text::import(small.as_bytes(), [2, 2, 1, 2]), Err(13));
+    for length in 0..small.len() {
+        t.same(("cut off", length), lab_text::read(&small.as_bytes()[..length]), Err(14));
+    }
+    t.same("something after it", lab_text::read(format!("{small}\n").as_bytes()), Err(14));
+    t.report("texts of the lab");
 }
 
 /// Ten-thousandths of a number of millionths.
@@ -324,6 +379,7 @@ fn main() {
     proved_table(&mut t);
     refusals(&mut t);
     lines(&mut t);
+    lab_texts(&mut t);
     table_one(&mut t);
     table_one_figures(&mut t);
     sines(&mut t);

@@ -1,59 +1,14 @@
 //! Checks the program `pairs` (its path is the argument): random valid and damaged lines, and
 //! edges, through a pipe, whole and in chunks of every small size.
 
+use reference::program;
 use reference::random::Random;
 use reference::tally::Tally;
 use reference::text::text_of;
-use std::io::{Read, Write};
-use std::os::fd::AsRawFd;
-use std::process::{Command, Stdio};
-
-unsafe extern "C" {
-    fn ioctl(file: i32, request: u64, ...) -> i32;
-}
-
-/// How many bytes of a pipe are not read yet.
-fn unread(pipe: &impl AsRawFd) -> i32 {
-    const FIONREAD: u64 = 0x541b;
-    let mut bytes = 0i32;
-    let status = unsafe { ioctl(pipe.as_raw_fd(), FIONREAD, &mut bytes) };
-    assert!(status == 0, "the pipe cannot be asked what it holds");
-    bytes
-}
-
-/// Runs the program on an input, handed over in chunks, each one only when the last was read.
-fn run(program: &str, input: &[u8], chunk: usize) -> Vec<u8> {
-    let mut child = Command::new(program)
-        .stdin(Stdio::piped())
-        .stdout(Stdio::piped())
-        .spawn()
-        .unwrap_or_else(|e| panic!("{program}: {e}"));
-    let mut writer = child.stdin.take().expect("a pipe");
-    let mut reader = child.stdout.take().expect("a pipe");
-    let reading = std::thread::spawn(move || {
-        let mut output = Vec::new();
-        reader.read_to_end(&mut output).expect("the program's output");
-        output
-    });
-    for part in input.chunks(chunk) {
-        writer.write_all(part).unwrap_or_else(|e| panic!("{program} stopped reading: {e}"));
-        while unread(&writer) > 0 {
-            if let Some(status) = child.try_wait().expect("the program") {
-                panic!("{program} ended before its input did: {status}");
-            }
-            std::thread::yield_now();
-        }
-    }
-    drop(writer);
-    let output = reading.join().expect("a thread");
-    let status = child.wait().expect("the program");
-    assert!(status.success(), "{program} ended with {status}");
-    output
-}
 
 /// Compares line by line, so that a failure names its line.
 fn compare(t: &mut Tally, program: &str, input: &[u8], chunk: usize) {
-    let (found, wanted) = (run(program, input, chunk), text_of(input));
+    let (found, wanted) = (program::output(program, input, chunk), text_of(input));
     let lines = |bytes: &[u8]| bytes.split(|&c| c == b'\n').map(|l| String::from_utf8_lossy(l).into_owned()).collect();
     let (found_lines, wanted_lines): (Vec<String>, Vec<String>) = (lines(&found), lines(&wanted));
     let shown: Vec<String> = lines(input);

@@ -37,7 +37,8 @@ impl Tally {
         self.compared = 0;
     }
 
-    fn fail(&self) -> ! {
+    /// Ends the program with status 1.
+    pub fn fail(&self) -> ! {
         eprintln!("{}: FAILED", self.program);
         std::process::exit(1);
     }
