@@ -11,7 +11,6 @@ use Rattle.sorting.specs.Order.{putIn, stableOrder}
 use Rattle.sample.specs.Sample.{colourRefusal, colourSample}
 use Rattle.sample.specs.Refusals.{firstRefusal}
 use Rattle.swatches.specs.Swatches.{all, codes, byLightness}
-use Rattle.swatches.specs.declared.Swatch.{Swatch}
 use Rattle.lab_text.specs.Keywords.{beginDataFormat, endDataFormat, numberOfSets, beginData, endData, sampleId, labL, labA, labB}
 use Rattle.lab_text.specs.Fields.{isNumber, isCode, isValue, valueIn, placeOf, orderOf, isNames, isSets, setsIn, isRow, rowIn}
 use Rattle.lab_text.specs.Text.{rowLines, ends, isHead, rowsOf, formRefusal, rowRefusal, setsRefusal, sizeRefusal}
@@ -100,8 +99,11 @@ unfolding same startWith partsOf runOn runOf fractionRun fractionOf wholeRun dec
     setsRefusal sizeRefusal limitsRefusal textRefusal swatchesOf
 first-end = refl
 
--- SAMPLE_ID 4294967295 and 4294967296, ten and eleven digits
+-- SAMPLE_ID 4294967295 and 4294967296, ten and eleven digits, none
 pub ids :
-    isCode (52 ∷ 50 ∷ 57 ∷ 52 ∷ 57 ∷ 54 ∷ 55 ∷ 50 ∷ 57 ∷ 53 ∷ []) ∷ isCode (52 ∷ 50 ∷ 57 ∷ 52 ∷ 57 ∷ 54 ∷ 55 ∷ 50 ∷ 57 ∷ 54 ∷ []) ∷ isCode (48 ∷ 48 ∷ 48 ∷ 48 ∷ 48 ∷ 48 ∷ 48 ∷ 48 ∷ 48 ∷ 55 ∷ []) ∷ isCode (48 ∷ 48 ∷ 48 ∷ 48 ∷ 48 ∷ 48 ∷ 48 ∷ 48 ∷ 48 ∷ 48 ∷ 55 ∷ []) ∷ isCode [] ∷ [] ≡ true ∷ false ∷ true ∷ false ∷ false ∷ []
+    isCode (52 ∷ 50 ∷ 57 ∷ 52 ∷ 57 ∷ 54 ∷ 55 ∷ 50 ∷ 57 ∷ 53 ∷ []) ∷ isCode (52 ∷ 50 ∷ 57 ∷ 52 ∷ 57 ∷ 54 ∷ 55 ∷ 50 ∷ 57 ∷ 54 ∷ []) ∷
+    isCode (48 ∷ 48 ∷ 48 ∷ 48 ∷ 48 ∷ 48 ∷ 48 ∷ 48 ∷ 48 ∷ 55 ∷ []) ∷
+    isCode (48 ∷ 48 ∷ 48 ∷ 48 ∷ 48 ∷ 48 ∷ 48 ∷ 48 ∷ 48 ∷ 48 ∷ 55 ∷ []) ∷ isCode [] ∷ []
+    ≡ true ∷ false ∷ true ∷ false ∷ false ∷ []
 unfolding runOn runOf isNumber isCode
 ids = refl

@@ -1,5 +1,5 @@
 -- The five lines before the rows, from what was read of each. Assumes nothing.
-use mathlib.Core.Path.{_≡_, refl, sym, ap, ap₂, subst, _∙_}
+use mathlib.Core.Path.{_≡_, refl, sym, ap, ap₂, _∙_}
 use mathlib.Core.Bool.{Bool, true, false, _&&_, true≢false, and-eq-true-iff}
 use mathlib.Core.List.{List}
 use Prim.Native.Nat.{ℕ}
@@ -10,7 +10,7 @@ use Rattle.buffer.specs.Numbers.{same}
 use Rattle.buffer.specs.Inner.{partsFrom, firstPart}
 use Rattle.buffer.proofs.PartsLaws.{from-start, next-from, part-from, parts-number}
 use Rattle.lab_text.specs.Keywords.{beginDataFormat, endDataFormat, numberOfSets, beginData, sampleId, labL, labA, labB}
-use Rattle.lab_text.specs.Fields.{wordsOf, wordAt, isNumber, numberIn, placeOf, orderOf, isNames, isSets, setsIn}
+use Rattle.lab_text.specs.Fields.{wordsOf, isNumber, numberIn, placeOf, orderOf, isNames, isSets, setsIn}
 use Rattle.lab_text.specs.Text.{linesOf, lineAt, isHead}
 use Rattle.lab_text.specs.Inner.{NumberRead, IsWords, OrderIn, NamesRead, SetsRead, HeadRead}
 use Rattle.lab_text.specs.declared.fields.Number.{Number}

@@ -1,5 +1,5 @@
 -- What an import answers and leaves, from what its steps did. Assumes nothing.
-use mathlib.Core.Path.{_≡_, refl, sym, ap, ap₂, subst, _∙_}
+use mathlib.Core.Path.{_≡_, refl, sym, ap, ap₂, _∙_}
 use mathlib.Core.Bool.{Bool, _&&_}
 use mathlib.Core.List.{List, [], _∷_, _++_, map}
 use Prim.Native.Nat.{ℕ, zero, suc, _≤_}
@@ -11,7 +11,7 @@ use lib.Seq.{length-take-le, take-at}
 use borrow.Author.Tests.{leb-true}
 use Rattle.sample.specs.Refusals.{firstOf}
 use Rattle.sample.proofs.RefusalLaws.{first-none, first-last, first-cons}
-use Rattle.deck.specs.Deck.{mostSwatches, columns, deckRefusal}
+use Rattle.deck.specs.Deck.{columns, deckRefusal}
 use Rattle.deck.proofs.DeckLaws.{both}
 use Rattle.deck_file.specs.Refusals.{roomRefusal}
 use Rattle.deck_file.specs.Transfers.{transferNumber, transferSize, contentsOf}
@@ -21,7 +21,7 @@ use Rattle.deck_file.proofs.Answering.{refused-answer, refused-contents, done-a
 use Rattle.lab_text.specs.Text.{textRefusal, swatchesOf}
 use Rattle.swatches.specs.Swatches.{codes, lightnesses, greenReds, blueYellows}
 use Rattle.lab_text.specs.Imports.{Columns, lent, importRefusal, importAnswer}
-use Rattle.lab_text.specs.Imports.{IsLabDeck, columnsAfter, front, rest, Imports}
+use Rattle.lab_text.specs.Imports.{IsLabDeck, columnsAfter, front, Imports}
 use Rattle.swatches.specs.declared.Swatch.{Swatch}
 use Rattle.lab_text.specs.declared.LabDeck.{LabDeck}
 use Rattle.lab_text.proofs.ReadLaws.{none-true}

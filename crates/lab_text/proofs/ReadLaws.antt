@@ -1,12 +1,11 @@
 -- The refusals of a text, from what was read of it, and its deck. Assumes nothing.
 use mathlib.Core.Path.{_≡_, refl, sym, ap, ap₂, subst, _∙_}
 use mathlib.Core.Bool.{Bool, true, false, _&&_, cond}
-use mathlib.Core.List.{List, [], _∷_, map}
-use Prim.Native.Nat.{ℕ, _≤_, _<_}
+use mathlib.Core.List.{List}
+use Prim.Native.Nat.{ℕ, _≤_}
 use native.Mathlib.Omega.{arith}
 use lib.Dec.{leb, eqb}
 use lib.ListN.{length, take, length-map}
-use lib.Seq.{length-take-le}
 use borrow.Author.Tests.{leb-true}
 use Rattle.sample.specs.Refusals.{firstOf, firstRefusal}
 use Rattle.sample.proofs.RefusalLaws.{first-last, none-of}

@@ -1,14 +1,13 @@
 -- Lines of one or more words, with one space between: the names, the number of rows, and a row.
 use mathlib.Core.Bool.{Bool, true, false, _&&_, cond}
 use mathlib.Core.List.{List, [], _∷_}
-use Prim.Native.Nat.{ℕ, zero, suc}
+use Prim.Native.Nat.{ℕ, suc}
 use lib.Dec.{leb, ltb, eqb}
 use lib.IntN.{ℤ, pos}
 use lib.ListN.{length, getD}
 use Rattle.buffer.specs.Numbers.{same}
 use Rattle.buffer.specs.Parts.{partsOf}
-use Rattle.decimal.specs.Reading.{Found, found, missing, Run, runOf, decimalOf}
-use Rattle.sample.specs.Sample.{Colour}
+use Rattle.decimal.specs.Reading.{Found, found, missing, runOf, decimalOf}
 use Rattle.lab_text.specs.Keywords.{numberOfSets, sampleId, labL, labA, labB}
 use Rattle.swatches.specs.declared.Swatch.{Swatch}
 use Rattle.lab_text.specs.declared.head.Order.{Order}

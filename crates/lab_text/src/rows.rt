@@ -1,6 +1,4 @@
 // The rows, up to the first END_DATA.
-ghost use mathlib.Core.Path.{_≡_};
-ghost use Prim.Native.Nat.{_≤_};
 ghost use Rattle.buffer.specs.Inner.{partsFrom};
 ghost use Rattle.lab_text.specs.Inner.{OrderIn, RowRead, TableRead};
 use super::Swatch;

@@ -1,7 +1,7 @@
 -- What an import answers and leaves, from the rows that were put in front. Assumes nothing.
 use mathlib.Core.Path.{_≡_, refl, sym, ap, ap₂, _∙_}
 use mathlib.Core.List.{List, [], _∷_, _++_}
-use Prim.Native.Nat.{ℕ, zero, suc, _≤_}
+use Prim.Native.Nat.{ℕ, zero, suc}
 use native.Mathlib.Omega.{arith}
 use lib.Dec.{leb}
 use lib.ListN.{length, take, drop}
@@ -9,7 +9,7 @@ use lib.Seq.{take-at}
 use borrow.Author.Tests.{leb-true}
 use Rattle.sample.specs.Refusals.{firstOf}
 use Rattle.sample.proofs.RefusalLaws.{first-none, first-last, first-cons}
-use Rattle.deck.specs.Deck.{mostSwatches, deckRefusal}
+use Rattle.deck.specs.Deck.{deckRefusal}
 use Rattle.deck_file.specs.Refusals.{roomRefusal}
 use Rattle.deck_file.specs.Transfers.{transferOf, transferNumber, transferSize, contentsOf}
 use Rattle.deck_file.specs.declared.Transfer.the-variants.{Done, Refused}
@@ -22,7 +22,7 @@ use Rattle.lab_text.specs.declared.LabDeck.{LabDeck}
 use Rattle.lab_text.proofs.ReadLaws.{none-true}
 use Rattle.lab_text.proofs.TextLaws.{text-valid, text-ordered}
 use Rattle.lab_text.proofs.ImportLaws.{read-count}
-use Rattle.records.specs.Records.{importRefusal, importAnswer, Imports}
+use Rattle.records.specs.Records.{importRefusal, Imports}
 use Rattle.records.specs.Inner.{RowsFor}
 use Rattle.records.specs.declared.Rows.{Rows}
 

@@ -1,7 +1,6 @@
 -- The lines that an import is printed as.
 use mathlib.Core.List.{List, [], _∷_, _++_}
 use Prim.Native.Nat.{ℕ}
-use lib.IntN.{ℤ}
 use Rattle.decimal.specs.Writing.{digitsOf, fixedText}
 use Rattle.swatches.specs.declared.Swatch.{Swatch}
 

@@ -1,18 +1,18 @@
 -- Swatches within the limits, put in the order of their lightness, make a valid deck. Assumes nothing.
-use mathlib.Core.Path.{_≡_, refl, sym, ap, ap₂, subst, _∙_}
-use mathlib.Core.Bool.{Bool, true, false, _&&_, cond, and-eq-true-iff}
+use mathlib.Core.Path.{_≡_, refl, sym, ap, ap₂, _∙_}
+use mathlib.Core.Bool.{Bool, true, and-eq-true-iff}
 use mathlib.Core.List.{List, [], _∷_, map}
 use Prim.Native.Nat.{ℕ, zero, suc, _≤_, _<_}
 use native.Mathlib.Nat.{not-suc-le-zero, le-of-suc-le-suc}
 use native.Mathlib.Omega.{arith}
-use lib.Dec.{leb, eqb}
-use lib.IntN.{ℤ, pos, natAbs}
+use lib.Dec.{eqb}
+use lib.IntN.{pos}
 use lib.Signed.{leZ}
 use lib.ListN.{length, getD, length-map, List·getD-map}
-use borrow.Author.Tests.{le-leb, leb-true, eqb-true}
-use Rattle.places.specs.Places.{at, every, rising}
+use borrow.Author.Tests.{le-leb, eqb-true}
+use Rattle.places.specs.Places.{every, rising}
 use Rattle.places.proofs.PlacesLaws.{every-of}
-use Rattle.sorting.specs.Order.{stableOrder, IsStableOrder}
+use Rattle.sorting.specs.Order.{IsStableOrder}
 use Rattle.sorting.proofs.OrderLaws.{order-is}
 use Rattle.sample.specs.Sample.{Colour, colourRefusal, colourSample}
 use Rattle.sample.proofs.SampleLaws.{accepted-lightness}
