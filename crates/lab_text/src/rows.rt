@@ -54,9 +54,10 @@ pub fn read_rows(text: &[u8], first: usize, o: Order) -> Table
     while at <= text.len() {
         let end = buffer::parts::part_end(text, at, b'\n');
         let line = &text[at..end];
+        let next = end + 1;
         if buffer::equal(line, b"END_DATA") {
             return Table {
-                ended: end + 1 == text.len(),
+                ended: next == text.len(),
                 right,
                 within,
                 count,
@@ -71,7 +72,7 @@ pub fn read_rows(text: &[u8], first: usize, o: Order) -> Table
             swatches[count] = swatch;
         }
         count += 1;
-        at = end + 1;
+        at = next;
     }
     Table {
         ended: false,

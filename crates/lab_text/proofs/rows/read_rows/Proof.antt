@@ -24,15 +24,6 @@ abbrev μ-loop : tie.MeasureT-loop
 loop-holds : tie.Need-loop-holds Inv-loop μ-loop
 loop-holds c = (omega arith, c .no-swatches .ensures, so-far-none _ _ _)
 
-part-line-start : tie.Need-part-line-start Inv-loop μ-loop
-part-line-start c = search needs
-
-part-line-end : tie.Need-part-line-end Inv-loop μ-loop
-part-line-end c = search needs
-
-add-t22 : tie.Need-add-t22 Inv-loop μ-loop
-add-t22 c = omega arith
-
 returns : tie.Need-returns Inv-loop μ-loop
 unfolding endData
 returns c =
@@ -44,21 +35,6 @@ returns c =
     let f = c .before .equal .ensures in
     let end = end-from text (part .part-end .result + 1) in
     so-far-all _ _ h (inv .1) (rows-end _ _ h e f (c .if1 .taken)) (sym end ∙ ends-here _ _ h e f (c .if1 .taken))
-
-mul-swatches : tie.Need-mul-swatches Inv-loop μ-loop
-mul-swatches c = omega arith
-
-array-set-from-swatches : tie.Need-array-set-from-swatches Inv-loop μ-loop
-array-set-from-swatches c = omega arith
-
-add-count : tie.Need-add-count Inv-loop μ-loop
-add-count c = omega arith
-
-add-at : tie.Need-add-at Inv-loop μ-loop
-add-at c = omega arith
-
-loop-less : tie.Need-loop-less Inv-loop μ-loop
-loop-less c = omega arith
 
 loop-again : tie.Need-loop-again Inv-loop μ-loop
 unfolding endData
@@ -92,18 +68,17 @@ read-rows-spec =
     loop-holds
     (λ c κs. search needs)
     (λ c. omega arith)
-    part-line-start
-    part-line-end
+    (λ c. search needs)
+    (λ c. search needs)
+    (λ c. omega arith)
     (λ c. search needs)
     (λ c κs. search needs)
-    add-t22
     returns
     (λ c κs. search needs)
     (λ c κs. search needs)
-    mul-swatches
-    array-set-from-swatches
-    add-count
-    add-at
-    loop-less
+    (λ c. omega arith)
+    (λ c. omega arith)
+    (λ c. omega arith)
+    (λ c. omega arith)
     loop-again
     returns-2)
