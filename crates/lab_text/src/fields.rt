@@ -20,6 +20,7 @@ pub struct Number {
     pub value: u64,
 }
 
+// Reads a word of at most so many digits.
 pub fn read_number(word: &[u8], most: usize) -> Number
     requires { ⌜ most ≤ 10 ⌝ }
     ensures { λ r. ⌜ NumberRead most (now (word .entry)) r ⌝ }
@@ -37,6 +38,7 @@ pub struct Code {
     pub code: u32,
 }
 
+// Reads a SAMPLE_ID.
 fn read_code(word: &[u8]) -> Code
     ensures { λ r. ⌜ CodeRead (now (word .entry)) r ⌝ }
 {
@@ -59,6 +61,7 @@ pub struct Value {
     pub value: i32,
 }
 
+// Reads a decimal.
 fn read_value(word: &[u8]) -> Value
     ensures { λ r. ⌜ ValueRead (now (word .entry)) r ⌝ }
 {
@@ -84,6 +87,7 @@ pub struct Words {
     pub fourth: usize,
 }
 
+// Finds the words of a line.
 pub fn read_words(line: &[u8]) -> Words
     ensures { λ r. ⌜ IsWords (now (line .entry)) r ⌝ }
 {

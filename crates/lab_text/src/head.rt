@@ -19,6 +19,7 @@ pub struct Names {
     pub order: Order,
 }
 
+// Reads line 2.
 fn read_names(line: &[u8]) -> Names
     ensures { λ r. ⌜ NamesRead (now (line .entry)) r ⌝ }
 {
@@ -52,6 +53,7 @@ pub struct Sets {
     pub count: usize,
 }
 
+// Reads line 4.
 fn read_sets(line: &[u8]) -> Sets
     ensures { λ r. ⌜ SetsRead (now (line .entry)) r ⌝ }
 {
@@ -81,6 +83,7 @@ pub struct Head {
     pub rows: usize,
 }
 
+// Reads the five lines.
 pub fn read_head(text: &[u8]) -> Head
     ensures { λ r. ⌜ HeadRead (now (text .entry)) r ⌝ }
 {

@@ -1,17 +1,17 @@
 // The rows, up to the first END_DATA.
 ghost use Rattle.buffer.specs.Inner.{partsFrom};
 ghost use Rattle.lab_text.specs.Inner.{OrderIn, RowRead, TableRead};
-use super::Swatch;
 use super::fields;
 use super::head::Order;
-use sample::FixedColour;
+use swatches::Swatch;
 
-// Whether a line is a row, and its swatch.
+// What a line was read as: whether it is a row, and its swatch.
 pub struct Row {
     pub right: bool,
     pub swatch: Swatch,
 }
 
+// Reads a line whose fields stand in this order.
 fn read_row(line: &[u8], o: Order) -> Row
     requires { ⌜ OrderIn o ⌝ }
     ensures { λ r. ⌜ RowRead o (now (line .entry)) r ⌝ }
@@ -42,6 +42,7 @@ pub struct Table {
     pub swatches: [Swatch; deck::MOST_SWATCHES],
 }
 
+// Reads the rows from a place on.
 pub fn read_rows(text: &[u8], first: usize, o: Order) -> Table
     requires { ⌜ OrderIn o ⌝ }
     ensures { λ r. ⌜ TableRead o (partsFrom 10 (now (text .entry)) first) r ⌝ }
