@@ -1,6 +1,6 @@
 -- What an import answers and leaves, from what its steps did. Assumes nothing.
 use mathlib.Core.Path.{_≡_, refl, sym, ap, ap₂, _∙_}
-use mathlib.Core.Bool.{Bool, _&&_}
+use mathlib.Core.Bool.{Bool, true}
 use mathlib.Core.List.{List, [], _∷_, _++_, map}
 use Prim.Native.Nat.{ℕ, zero, suc, _≤_}
 use native.Mathlib.Omega.{arith}
@@ -20,7 +20,7 @@ use Rattle.deck_file.specs.declared.Transfer.the-variants.{Done, Refused}
 use Rattle.deck_file.proofs.Answering.{refused-answer, refused-contents, done-answer, done-contents, number-is, contents-kept}
 use Rattle.lab_text.specs.Text.{textRefusal, swatchesOf}
 use Rattle.swatches.specs.Swatches.{codes, lightnesses, greenReds, blueYellows}
-use Rattle.lab_text.specs.Imports.{Columns, lent, importRefusal, importAnswer}
+use Rattle.lab_text.specs.Imports.{refusalFor, Columns, lent, columnsFit, importRefusal, importAnswer}
 use Rattle.lab_text.specs.Imports.{IsLabDeck, columnsAfter, front, Imports}
 use Rattle.swatches.specs.declared.Swatch.{Swatch}
 use Rattle.lab_text.specs.declared.LabDeck.{LabDeck}
@@ -32,6 +32,40 @@ pub read-count : (text : List ℕ) {d : LabDeck} → IsLabDeck text d → textRe
 read-count text {d} is z =
     sym (length-take-le (d .count) (d .swatches) (omega (arith, is .most, is .size))) ∙ ap length (is .is z)
 
+-- ---- the refusal of an import, of columns as of records, from what was read
+
+module _ (text : List ℕ) (fits : ℕ → Bool) where
+  pub by-text : firstOf (textRefusal text) (roomRefusal (fits (length (swatchesOf text)))) ≡ refusalFor text fits
+  unfolding refusalFor
+  by-text =
+      let r = roomRefusal (fits (length (swatchesOf text))) in
+      sym (first-cons (textRefusal text) (r ∷ []) ∙ ap (firstOf (textRefusal text)) (first-last r))
+
+  module _ {d : LabDeck} (is : IsLabDeck text d) where
+    by-read : (k : ℕ) → textRefusal text ≡ k → firstOf (d .refusal) (roomRefusal (fits (d .count))) ≡ refusalFor text fits
+    by-read zero e = ap₂ (λ r n. firstOf r (roomRefusal (fits n))) (is .refusal) (read-count text is e) ∙ by-text
+    by-read (suc k) e =
+        ap (λ r. firstOf r (roomRefusal (fits (d .count)))) (is .refusal ∙ e)
+        ∙ sym (ap (λ r. firstOf r (roomRefusal (fits (length (swatchesOf text))))) e) ∙ by-text
+
+    pub refused-by : {k m : ℕ} → k ≡ roomRefusal (fits (d .count)) → m ≡ firstOf (d .refusal) k → m ≡ refusalFor text fits
+    refused-by e f = f ∙ ap (firstOf (d .refusal)) e ∙ by-read (textRefusal text) refl
+
+    -- where nothing is refused
+    module _ (z : refusalFor text fits ≡ 0) where
+      pub accepted : textRefusal text ≡ 0
+      accepted = first-none (textRefusal text) _ (by-text ∙ z) .0
+
+      pub count-is : d .count ≡ length (swatchesOf text)
+      count-is = read-count text is accepted
+
+      pub fitting : fits (d .count) ≡ true
+      fitting =
+          none-true _ (λ q. absurd (omega arith))
+          (first-none (d .refusal) (roomRefusal (fits (d .count))) (by-read (textRefusal text) refl ∙ z) .1)
+
+-- ---- columns
+
 module _ (text : List ℕ) (code : List ℕ) (l a b : List ℤ) where
   abbrev old : Columns
   old = lent code l a b
@@ -42,27 +76,13 @@ module _ (text : List ℕ) (code : List ℕ) (l a b : List ℤ) where
   abbrev ss : List Swatch
   ss = swatchesOf text
 
-  -- each column has room for n
-  abbrev fits : ℕ → Bool
-  fits n = leb n (length code) && (leb n (length l) && (leb n (length a) && leb n (length b)))
-
-  by-text : firstOf (textRefusal text) (roomRefusal (fits (length ss))) ≡ refusal
+  refusal-is : refusalFor text (columnsFit old) ≡ refusal
   unfolding importRefusal
-  by-text =
-      let r = roomRefusal (fits (length ss)) in
-      sym (first-cons (textRefusal text) (r ∷ []) ∙ ap (firstOf (textRefusal text)) (first-last r))
+  refusal-is = refl
 
-  pub refusal-is : {d : LabDeck} → IsLabDeck text d → firstOf (d .refusal) (roomRefusal (fits (d .count))) ≡ refusal
-  refusal-is {d} is = by (textRefusal text) refl where
-    by : (k : ℕ) → textRefusal text ≡ k → firstOf (d .refusal) (roomRefusal (fits (d .count))) ≡ refusal
-    by zero e = ap₂ (λ r n. firstOf r (roomRefusal (fits n))) (is .refusal) (read-count text is e) ∙ by-text
-    by (suc k) e =
-        ap (λ r. firstOf r (roomRefusal (fits (d .count)))) (is .refusal ∙ e)
-        ∙ sym (ap (λ r. firstOf r (roomRefusal (fits (length ss)))) e) ∙ by-text
-
-  pub refused-by : {d : LabDeck} {k m : ℕ} → IsLabDeck text d → k ≡ roomRefusal (fits (d .count)) → m ≡ firstOf (d .refusal) k
-      → m ≡ refusal
-  refused-by {d} is e f = f ∙ ap (firstOf (d .refusal)) e ∙ refusal-is is
+  pub columns-refused-by : {d : LabDeck} {k m : ℕ} → IsLabDeck text d → k ≡ roomRefusal (columnsFit old (d .count))
+      → m ≡ firstOf (d .refusal) k → m ≡ refusal
+  columns-refused-by is e f = refused-by text (columnsFit old) is e f ∙ refusal-is
 
   abbrev size : ℕ
   size = transferSize (importAnswer text old)
@@ -100,32 +120,31 @@ module _ (text : List ℕ) (code : List ℕ) (l a b : List ℤ) where
       (λ z. absurd (h (e ∙ z)))
 
   module _ {d : LabDeck} (is : IsLabDeck text d) (z : refusal ≡ 0) where
-    accepted : textRefusal text ≡ 0
-    accepted = first-none (textRefusal text) _ (by-text ∙ z) .0
+    abbrev swatches-are : take (d .count) (d .swatches) ≡ ss
+    swatches-are = is .is (accepted text (columnsFit old) is (refusal-is ∙ z))
+
+    abbrev count-all : d .count ≡ length ss
+    count-all = count-is text (columnsFit old) is (refusal-is ∙ z)
 
     -- there is room for all
     pub room : (d .count ≤ length code) × ((d .count ≤ length l) × ((d .count ≤ length a) × (d .count ≤ length b)))
     room =
         let n = d .count in
-        let e = first-none (d .refusal) (roomRefusal (fits n)) (refusal-is is ∙ z) .1 in
-        let c = both (leb n (length code)) _ (none-true (fits n) (λ q. absurd (omega arith)) e) in
+        let c = both (leb n (length code)) _ (fitting text (columnsFit old) is (refusal-is ∙ z)) in
         let m = both (leb n (length l)) _ (c .1) in
         let k = both (leb n (length a)) (leb n (length b)) (m .1) in
         (leb-true _ _ (c .0), (leb-true _ _ (m .0), (leb-true _ _ (k .0), leb-true _ _ (k .1))))
 
-    count-is : d .count ≡ length ss
-    count-is = read-count text is accepted
-
     module _ {A : Type 0} (f : Swatch → A) (xs : List A) {ys : List A}
         (h : ys ≡ map f (take (d .count) (d .swatches)) ++ drop (d .count) xs) where
       filled : ys ≡ map f ss ++ drop (d .count) xs
-      filled = h ∙ ap (λ ts. map f ts ++ drop (d .count) xs) (is .is accepted)
+      filled = h ∙ ap (λ ts. map f ts ++ drop (d .count) xs) swatches-are
 
       column-done : ys ≡ contentsOf refusal (map f ss) xs
-      column-done = done-contents (map f ss) xs z (length-map ss f) (filled ∙ ap (λ n. map f ss ++ drop n xs) count-is)
+      column-done = done-contents (map f ss) xs z (length-map ss f) (filled ∙ ap (λ n. map f ss ++ drop n xs) count-all)
 
       column-front : take (d .count) ys ≡ map f ss
-      column-front = ap (take (d .count)) filled ∙ take-at (map f ss) _ (d .count) (length-map ss f ∙ sym count-is)
+      column-front = ap (take (d .count)) filled ∙ take-at (map f ss) _ (d .count) (length-map ss f ∙ sym count-all)
 
     pub imports-done : {code′ : List ℕ} {l′ a′ b′ : List ℤ}
         → code′ ≡ codes (take (d .count) (d .swatches)) ++ drop (d .count) code
@@ -138,11 +157,11 @@ module _ (text : List ℕ) (code : List ℕ) (l a b : List ℤ) where
         let fl = column-front (λ (s : Swatch). s .l) l el in
         let fa = column-front (λ (s : Swatch). s .a) a ea in
         let fb = column-front (λ (s : Swatch). s .b) b eb in
-        imports (done-answer z count-is)
+        imports (done-answer z count-all)
         (λ i. record {
           code = column-done (λ (s : Swatch). s .code) code ec i;
           l = column-done (λ (s : Swatch). s .l) l el i;
           a = column-done (λ (s : Swatch). s .a) a ea i;
           b = column-done (λ (s : Swatch). s .b) b eb i;
         })
-        (λ _. (λ i. deckRefusal (columns (fl i) (fa i) (fb i))) ∙ text-valid text accepted)
+        (λ _. (λ i. deckRefusal (columns (fl i) (fa i) (fb i))) ∙ text-valid text (accepted text (columnsFit old) is (refusal-is ∙ z)))

@@ -1,6 +1,6 @@
 -- What the reading of a text, and its import to lent columns, promise.
 use mathlib.Core.Path.{_≡_}
-use mathlib.Core.Bool.{_&&_}
+use mathlib.Core.Bool.{Bool, _&&_}
 use mathlib.Core.List.{List, [], _∷_}
 use Prim.Native.Nat.{ℕ, _≤_}
 use lib.Dec.{leb}
@@ -33,6 +33,10 @@ pub record IsLabDeck (text : List ℕ) (r : LabDeck) : Type 0 where
   pub most : r .count ≤ mostSwatches
   pub size : length (r .swatches) ≡ mostSwatches
 
+-- the first that applies to an import, where `fits n` says whether there is room for n swatches: 13 comes last
+unfoldable pub refusalFor : List ℕ → (ℕ → Bool) → ℕ
+refusalFor text fits = firstRefusal (textRefusal text ∷ roomRefusal (fits (length (swatchesOf text))) ∷ [])
+
 -- ---- lent columns
 
 -- four columns that were lent
@@ -45,12 +49,12 @@ pub record Columns : Type 0 where
 abbrev pub lent : List ℕ → List ℤ → List ℤ → List ℤ → Columns
 lent code l a b = record { code = code; l = l; a = a; b = b }
 
--- 13 comes last: each column needs room of its own
+-- each column has room for n
+abbrev pub columnsFit : Columns → ℕ → Bool
+columnsFit c n = leb n (length (c .code)) && (leb n (length (c .l)) && (leb n (length (c .a)) && leb n (length (c .b))))
+
 unfoldable pub importRefusal : List ℕ → Columns → ℕ
-importRefusal text old =
-    let n = length (swatchesOf text) in
-    let room = leb n (length (old .code)) && (leb n (length (old .l)) && (leb n (length (old .a)) && leb n (length (old .b)))) in
-    firstRefusal (textRefusal text ∷ roomRefusal room ∷ [])
+importRefusal text old = refusalFor text (columnsFit old)
 
 abbrev pub importAnswer : List ℕ → Columns → Transfer
 importAnswer text old = transferOf (importRefusal text old) (length (swatchesOf text))

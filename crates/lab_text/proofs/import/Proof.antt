@@ -2,7 +2,7 @@
 use mathlib.Core.Path.{_≡_, refl, sym, _∙_}
 use borrow.Author.Needs.{needs}
 use Rattle.lab_text.specs.Imports.{lent, importRefusal}
-use Rattle.lab_text.proofs.ImportLaws.{refused-by, room, imports-refused, imports-done}
+use Rattle.lab_text.proofs.ImportLaws.{columns-refused-by, room, imports-refused, imports-done}
 use Rattle.lab_text.proofs.import.Statement.{statement}
 use Rattle.lab_text.proofs.import.Tie as tie
 
@@ -11,7 +11,7 @@ refusal-is : (c : tie.After-first-of) → let x = c .before .before .before .bef
     c .first-of .result ≡ importRefusal (x .text .now) (lent (x .code .now) (x .l .now) (x .a .now) (x .b .now))
 refusal-is c =
     let room = c .before in
-    refused-by _ _ _ _ _ (room .before .read .ensures) (room .room-refusal .ensures) (c .first-of .ensures)
+    columns-refused-by _ _ _ _ _ (room .before .read .ensures) (room .room-refusal .ensures) (c .first-of .ensures)
 
 returns : tie.Need-returns
 returns c = (imports-refused _ _ _ _ _ (refusal-is (c .before)) (c .if1 .taken), refl)
