@@ -107,29 +107,16 @@ fn holds(t: &mut Tally, what: impl Debug, text: &[u8], rooms: [usize; 4], refusa
     }
 }
 
-/// A text by hand, with two rows of one lightness.
-const TEXT: &[u8] = b"BEGIN_DATA_FORMAT
-LAB_B SAMPLE_ID LAB_L LAB_A
-END_DATA_FORMAT
-NUMBER_OF_SETS 004
-BEGIN_DATA
--0.5 7 50.0001 128
--128.0 4294967295 50 -0
-012.34 0000000012 0.1 -0.0001
-5 3 050.0000 -000.00
-END_DATA
-";
-
 fn by_hand(t: &mut Tally) {
     let mut lists = Lists::before([6, 4, 5, 4]);
-    let answer = lq::import(TEXT, &mut lists.code, &mut lists.lab);
+    let answer = lq::import(cases::BY_HAND, &mut lists.code, &mut lists.lab);
     let code = vec![12, 4_294_967_295, 3, 7, 3_000_000_004, 3_000_000_005];
     let l = vec![1_000, 500_000, 500_000, 500_001];
     let a = vec![-1, 0, 0, 1_280_000, -1_999_999_996];
     let b = vec![123_400, -1_280_000, 50_000, -5_000];
     t.same("a text by hand, imported", answer, (0, 4));
     t.same("a text by hand, columns", (lists.code, lists.lab), (code, [l, a, b]));
-    import(t, "a text by hand", TEXT, [4; 4]);
+    import(t, "a text by hand", cases::BY_HAND, [4; 4]);
     t.report("a text by hand");
 }
 
@@ -401,7 +388,7 @@ fn sets(t: &mut Tally) {
 /// Two small texts, and the one by hand.
 fn small_texts() -> [Vec<u8>; 3] {
     let row = ["7", "50", "-1.5", "0.25"].map(str::to_string);
-    [cases::whole(PLAIN, &[]), cases::whole([1, 3, 2, 0], &[row]), TEXT.to_vec()]
+    [cases::whole(PLAIN, &[]), cases::whole([1, 3, 2, 0], &[row]), cases::BY_HAND.to_vec()]
 }
 
 /// Small texts with every sort of damage in every place.

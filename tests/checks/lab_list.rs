@@ -30,17 +30,7 @@ fn too_long(t: &mut Tally, program: &str, input: &[u8], chunk: usize) {
 }
 
 fn by_hand(t: &mut Tally, program: &str) {
-    let text = b"BEGIN_DATA_FORMAT
-LAB_B SAMPLE_ID LAB_L LAB_A
-END_DATA_FORMAT
-NUMBER_OF_SETS 004
-BEGIN_DATA
--0.5 7 50.0001 128
--128.0 4294967295 50 -0
-012.34 0000000012 0.1 -0.0001
-5 3 050.0000 -000.00
-END_DATA
-";
+    let text = cases::BY_HAND;
     let wanted = "12 0.1000 -0.0001 12.3400
 4294967295 50.0000 0.0000 -128.0000
 3 50.0000 0.0000 5.0000

@@ -9,6 +9,19 @@ pub type Row = [String; 4];
 /// The lines of a text, without their newlines.
 pub type Lines = Vec<Vec<u8>>;
 
+/// A text by hand, with two rows of one lightness.
+pub const BY_HAND: &[u8] = b"BEGIN_DATA_FORMAT
+LAB_B SAMPLE_ID LAB_L LAB_A
+END_DATA_FORMAT
+NUMBER_OF_SETS 004
+BEGIN_DATA
+-0.5 7 50.0001 128
+-128.0 4294967295 50 -0
+012.34 0000000012 0.1 -0.0001
+5 3 050.0000 -000.00
+END_DATA
+";
+
 /// All 24 orders of the four names: which of them stands first, second, third, last.
 pub fn orders() -> Vec<[usize; 4]> {
     let all = (0..256).map(|n| [n / 64, n / 16 % 4, n / 4 % 4, n % 4]);
