@@ -116,17 +116,40 @@ static double lcms(const Sample *s1, const Sample *s2) {
 }
 #endif
 
+/* CIE94 as LittleCMS has it: the constants for textiles, and neither sample a standard. */
+static double proved94(const Sample *s1, const Sample *s2) {
+    bool textile = true, standard = false;
+    double difference;
+    lq_cie94(s1->l, s1->a, s1->b, s2->l, s2->a, s2->b, 1, 1, 1, textile, standard, &difference);
+    return difference;
+}
+
+static double plain94(const Sample *s1, const Sample *s2) {
+    double a1 = s1->a, b1 = s1->b, a2 = s2->a, b2 = s2->b;
+    double c1 = sqrt(a1 * a1 + b1 * b1), c2 = sqrt(a2 * a2 + b2 * b2), mean = sqrt(c1 * c2);
+    double dl = (double)s2->l - s1->l, da = a2 - a1, db = b2 - b1, dc = c2 - c1;
+    double hue = da * da + db * db - dc * dc, sc = 1 + 0.048 * mean, sh = 1 + 0.014 * mean;
+    return sqrt(dl * dl + dc * dc / (sc * sc) + (hue > 0 ? hue : 0) / (sh * sh));
+}
+
+#ifdef LCMS
+static double lcms94(const Sample *s1, const Sample *s2) {
+    cmsCIELab lab1 = {s1->l, s1->a, s1->b}, lab2 = {s2->l, s2->a, s2->b};
+    return cmsCIE94DeltaE(&lab1, &lab2);
+}
+#endif
+
 /* --- a pair --- */
 
 typedef double (*Method)(const Sample *, const Sample *);
 
 #ifdef LCMS
 enum { METHODS = 3 };
-static const Method METHOD[METHODS] = {proved, plain, lcms};
+static const Method CIEDE2000[METHODS] = {proved, plain, lcms}, CIE94[METHODS] = {proved94, plain94, lcms94};
 static const char *NAME[METHODS] = {"Lahsufiq", "plain double", "LittleCMS"};
 #else
 enum { METHODS = 2 };
-static const Method METHOD[METHODS] = {proved, plain};
+static const Method CIEDE2000[METHODS] = {proved, plain}, CIE94[METHODS] = {proved94, plain94};
 static const char *NAME[METHODS] = {"Lahsufiq", "plain double"};
 #endif
 
@@ -164,18 +187,26 @@ static void row(const double times[METHODS], double unit, int places) {
     printf("\n");
 }
 
-static void pairs_of(const char *what, const Sample *first, const Sample *second) {
+static void pairs_of(const char *what, const Method methods[METHODS], const Sample *first, const Sample *second) {
     double times[METHODS][ROUNDS], medians[METHODS];
     for (int round = 0; round < ROUNDS; round++)
         for (int m = 0; m < METHODS; m++) {
             double began = processor_seconds(), sum = 0;
-            for (int i = 0; i < PAIRS; i++) sum += METHOD[m](&first[i], &second[i]);
+            for (int i = 0; i < PAIRS; i++) sum += methods[m](&first[i], &second[i]);
             times[m][round] = (processor_seconds() - began) / PAIRS;
             sink = sum;
         }
     for (int m = 0; m < METHODS; m++) medians[m] = median(times[m]);
     printf("| %s |", what);
     row(medians, 1e9, 0);
+}
+
+/* How far a method's CIE94 lies from Lahsufiq's, at most. */
+static double deviation(Method method, const Sample *first, const Sample *second) {
+    double most = 0;
+    for (int i = 0; i < PAIRS; i++)
+        most = fmax(most, fabs(method(&first[i], &second[i]) - proved94(&first[i], &second[i])));
+    return most;
 }
 
 static void bench_pairs(void) {
@@ -187,9 +218,16 @@ static void bench_pairs(void) {
     }
     printf("One CIEDE2000 difference, nanoseconds (ratio: Lahsufiq's time to the other's)\n\n");
     head("| Pairs |");
-    pairs_of("anywhere", first, far_second);
-    pairs_of("near each other", first, near_second);
-    printf("\n");
+    pairs_of("anywhere", CIEDE2000, first, far_second);
+    pairs_of("near each other", CIEDE2000, first, near_second);
+    printf("\nOne CIE94 difference for textiles without a standard, nanoseconds\n\n");
+    head("| Pairs |");
+    pairs_of("anywhere", CIE94, first, far_second);
+    pairs_of("near each other", CIE94, first, near_second);
+    for (int m = 1; m < METHODS; m++)
+        printf("\nCIE94 of these pairs: %s deviates by at most %.6f", NAME[m],
+               fmax(deviation(CIE94[m], first, far_second), deviation(CIE94[m], first, near_second)));
+    printf("\n\n");
 }
 
 /* --- a search --- */
@@ -261,7 +299,7 @@ static void bench_searches(void) {
                     for (int i = 0; i < READINGS * repeats; i++) {
                         const Sample *r = &readings[i % READINGS];
                         count += m == 0 ? search(&deck, r, TOLERANCE[t], places)
-                                        : scan(&deck, r, TOLERANCE[t], places, METHOD[m]);
+                                        : scan(&deck, r, TOLERANCE[t], places, CIEDE2000[m]);
                     }
                     times[m][round] = (processor_seconds() - began) / (READINGS * repeats);
                     matches[m] = count;

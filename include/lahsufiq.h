@@ -18,9 +18,10 @@
  *  16  its number of rows is not NUMBER_OF_SETS
  * The first that applies, in the order sample 1, sample 2, weights, tolerance, file (10, 11, 12), text (14,
  * 15, 16), deck (6, 7), room. A float is held to its limits at its exact value, and then rounded to the nearest whole
- * number of 1/10,000, a half to the even one. Sample 1 is the standard. Results come through the
- * pointers; on a refusal each is 0, and a list keeps its contents. No pointer may be null, not even that
- * of a list of length 0, and what is written may not overlap any other argument.
+ * number of 1/10,000, a half to the even one. Sample 1 is the standard, in lq_cie94 where the
+ * caller says so. Results come through the pointers; on a refusal each is 0, and a list keeps its contents.
+ * No pointer may be null, not even that of a list of length 0, and what is written may not overlap any
+ * other argument.
  */
 #ifndef LAHSUFIQ_H
 #define LAHSUFIQ_H
@@ -36,9 +37,12 @@ extern "C" {
 /* CIE76: refusals 1 to 3. */
 uint32_t lq_cie76(float l1, float a1, float b1, float l2, float a2, float b2, double *difference);
 
-/* CIE94 with the weights kL, kC, kH, and the constants for textiles where asked: refusals 1 to 4. */
+/* CIE94 with the weights kL, kC, kH. `textile` takes the constants for textiles, 0.048 and 0.014, for those
+ * of graphic arts, 0.045 and 0.015; the weights stay as given (textiles are usually judged with kL = 2).
+ * `standard` says that sample 1 is a standard, whose chroma then weighs; without one the root of both
+ * chromas' product does, and the difference is the same with the samples exchanged. Refusals 1 to 4. */
 uint32_t lq_cie94(float l1, float a1, float b1, float l2, float a2, float b2, float kl, float kc, float kh,
-                  bool textile, double *difference);
+                  bool textile, bool standard, double *difference);
 
 /* CIEDE2000: refusals 1 to 4. */
 uint32_t lq_ciede2000(float l1, float a1, float b1, float l2, float a2, float b2, float kl, float kc, float kh,

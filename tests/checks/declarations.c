@@ -11,7 +11,7 @@ void *declared[] = {(void *)lq_cie76,   (void *)lq_cie94,  (void *)lq_ciede2000,
 #include <stdint.h>
 
 uint32_t lq_cie76(float, float, float, float, float, float, double *);
-uint32_t lq_cie94(float, float, float, float, float, float, float, float, float, bool, double *);
+uint32_t lq_cie94(float, float, float, float, float, float, float, float, float, bool, bool, double *);
 uint32_t lq_ciede2000(float, float, float, float, float, float, float, float, float, double *);
 uint32_t lq_figures(float, float, float, float, float, float, float, float, float, int64_t[23]);
 uint32_t lq_verdict(float, float, float, float, float, float, float, float, float, float, double *, uint8_t *);

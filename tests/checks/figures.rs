@@ -7,7 +7,7 @@ use reference::cases::{self, KINDS, Kind};
 use reference::double;
 use reference::random::Random;
 use reference::tally::Tally;
-use reference::working::{self, FIGURE_NAMES, FIGURES};
+use reference::working::{self, Cie94, FIGURE_NAMES, FIGURES};
 
 const PAIRS: usize = 1_200_000;
 
@@ -65,9 +65,12 @@ fn compare(t: &mut Tally, r1: Reading, r2: Reading, k: [f32; 3], r: &mut Random,
     off.see(r1, r2, k, f64::from_bits(de00.1));
     t.same(("CIEDE2000 exchanged", r2, r1, k), lq::ciede2000(r2, r1, k), answer(millionths));
     t.same(("CIE76", r1, r2), lq::cie76(r1, r2), answer(working::cie76(s1, s2)));
-    for textile in [false, true] {
-        let wanted = answer(working::cie94(s1, s2, grid, textile));
-        t.same(("CIE94", r1, r2, k, textile), lq::cie94(r1, r2, k, textile), wanted);
+    for kind in Cie94::ALL {
+        let wanted = answer(working::cie94(s1, s2, grid, kind));
+        t.same(("CIE94", r1, r2, k, kind), lq::cie94(r1, r2, k, kind), wanted);
+        if !kind.standard {
+            t.same(("CIE94 exchanged", r2, r1, k, kind), lq::cie94(r2, r1, k, kind), wanted);
+        }
     }
     let tolerance = tolerance(millionths, r);
     let within = calls::is_within(millionths, calls::tolerance(tolerance).expect("accepted"));

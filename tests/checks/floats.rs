@@ -6,6 +6,7 @@ use reference::calls::{self, double};
 use reference::cases::{float, ties};
 use reference::random::Random;
 use reference::tally::Tally;
+use reference::working::Cie94;
 
 /// The argument that takes the float. The others are such that the answer tells its grid number.
 #[derive(Clone, Copy, PartialEq, Debug)]
@@ -24,6 +25,9 @@ enum Argument {
 use Argument::*;
 
 const ARGUMENTS: [Argument; 10] = [L1, A1, B1, L2, A2, B2, KL, KC, KH, Tolerance];
+
+/// The CIE94 that weights go through.
+const KIND: Cie94 = Cie94 { textile: false, standard: true };
 
 fn answer(wanted: Result<i128, u32>) -> lq::Answer {
     match wanted {
@@ -57,14 +61,14 @@ fn weighted(argument: Argument, x: f32) -> (calls::Reading, calls::Reading, [f32
 
 fn weight(t: &mut Tally, argument: Argument, x: f32) {
     let (r1, r2, k) = weighted(argument, x);
-    t.same((argument, x, x.to_bits()), lq::cie94(r1, r2, k, false), answer(calls::cie94(r1, r2, k, false)));
+    t.same((argument, x, x.to_bits()), lq::cie94(r1, r2, k, KIND), answer(calls::cie94(r1, r2, k, KIND)));
 }
 
 fn weights_are_told_apart(t: &mut Tally) {
     for argument in [KL, KC, KH] {
         let of = |grid: i128| {
             let (r1, r2, k) = weighted(argument, float(grid));
-            calls::cie94(r1, r2, k, false).expect("accepted")
+            calls::cie94(r1, r2, k, KIND).expect("accepted")
         };
         for grid in 5_000..100_000 {
             t.same((argument, grid, "has its own answer"), of(grid) > of(grid + 1), true);

@@ -3,7 +3,7 @@
 
 use reference::calls::Reading;
 use reference::deck::Columns;
-use reference::working::FIGURES;
+use reference::working::{Cie94, FIGURES};
 
 #[rustfmt::skip]
 mod c {
@@ -11,7 +11,7 @@ mod c {
         pub fn lq_cie76(l1: f32, a1: f32, b1: f32, l2: f32, a2: f32, b2: f32, difference: *mut f64) -> u32;
         pub fn lq_cie94(
             l1: f32, a1: f32, b1: f32, l2: f32, a2: f32, b2: f32, kl: f32, kc: f32, kh: f32, textile: bool,
-            difference: *mut f64,
+            standard: bool, difference: *mut f64,
         ) -> u32;
         pub fn lq_ciede2000(
             l1: f32, a1: f32, b1: f32, l2: f32, a2: f32, b2: f32, kl: f32, kc: f32, kh: f32, difference: *mut f64,
@@ -82,9 +82,10 @@ pub fn cie76([l1, a1, b1]: Reading, [l2, a2, b2]: Reading) -> Answer {
     (refusal, difference.to_bits())
 }
 
-pub fn cie94([l1, a1, b1]: Reading, [l2, a2, b2]: Reading, [kl, kc, kh]: [f32; 3], textile: bool) -> Answer {
+pub fn cie94([l1, a1, b1]: Reading, [l2, a2, b2]: Reading, [kl, kc, kh]: [f32; 3], kind: Cie94) -> Answer {
     let mut difference = BEFORE;
-    let refusal = unsafe { c::lq_cie94(l1, a1, b1, l2, a2, b2, kl, kc, kh, textile, &mut difference) };
+    let Cie94 { textile, standard } = kind;
+    let refusal = unsafe { c::lq_cie94(l1, a1, b1, l2, a2, b2, kl, kc, kh, textile, standard, &mut difference) };
     (refusal, difference.to_bits())
 }
 

@@ -224,6 +224,46 @@ fn four_decimals(millionths: i128) -> i128 {
     (millionths + 50) / 100
 }
 
+/// CIE94 by hand: in the order of `Cie94::ALL`, and with the samples exchanged. The chromas 9 and 4, whose
+/// geometric mean is 6, of one hue, and a quarter of a turn apart; a grey, beside which no chroma weighs;
+/// the largest chromas; the smallest beside the largest.
+fn cie94_by_hand(t: &mut Tally) {
+    let plane = |a: i128, b: i128| lab(500_000, a, b);
+    let (black, white) = (lab(0, -1_280_000, -1_280_000), lab(1_000_000, 1_280_000, 1_280_000));
+    let rows = [
+        (
+            (plane(90_000, 0), plane(40_000, 0)),
+            [3_558_718, 3_491_620, 3_937_007, 3_881_987],
+            [4_237_288, 4_194_630, 3_937_007, 3_881_987],
+        ),
+        (
+            (plane(0, 90_000), plane(40_000, 0)),
+            [8_279_813, 8_305_376, 8_723_587, 8_737_476],
+            [9_057_281, 9_064_272, 8_723_587, 8_737_476],
+        ),
+        (
+            (plane(0, 0), plane(100_000, 0)),
+            [10_000_000, 10_000_000, 10_000_000, 10_000_000],
+            [6_896_551, 6_756_756, 10_000_000, 10_000_000],
+        ),
+        (
+            (black, white),
+            [139_626_806, 143_154_660, 139_626_806, 143_154_660],
+            [139_626_806, 143_154_660, 139_626_806, 143_154_660],
+        ),
+        (
+            (plane(1, 0), plane(1_280_000, 1_280_000)),
+            [181_018_450, 181_018_396, 179_929_888, 179_857_728],
+            [19_792_475, 18_683_124, 179_929_888, 179_857_728],
+        ),
+    ];
+    for ((s1, s2), there, back) in rows {
+        t.same(("CIE94", s1, s2), Cie94::ALL.map(|kind| cie94(s1, s2, EVEN, kind)), there);
+        t.same(("CIE94", s2, s1), Cie94::ALL.map(|kind| cie94(s2, s1, EVEN, kind)), back);
+    }
+    t.report("CIE94 by hand, both ways round");
+}
+
 fn table_one(t: &mut Tally) {
     let rows = cases::table_one();
     t.same("rows of Table I", rows.len(), 34);
@@ -276,22 +316,19 @@ fn table_one_figures(t: &mut Tally) {
     t.report("the figures that Table I prints");
 }
 
-/// How far CIEDE2000, and CIE94 of each kind, are from double precision.
-fn deviations(s1: Lab, s2: Lab, k: Weights) -> [f64; 3] {
+/// How far CIEDE2000, and CIE94 in the order of `Cie94::ALL`, are from double precision.
+fn deviations(s1: Lab, s2: Lab, k: Weights) -> [f64; 5] {
     let doubles = |x: [i128; 3]| x.map(|x| x as f64 / 10_000.0);
     let (d1, d2, dk) = (doubles([s1.l, s1.a, s1.b]), doubles([s2.l, s2.a, s2.b]), doubles([k.l, k.c, k.h]));
     let off = |exact: f64, found: i128| (exact - calls::double(found)).abs();
-    [
-        off(double::ciede2000(d1, d2, dk), ciede2000(s1, s2, k)),
-        off(double::cie94(d1, d2, dk, false), cie94(s1, s2, k, false)),
-        off(double::cie94(d1, d2, dk, true), cie94(s1, s2, k, true)),
-    ]
+    let of94 = |i: usize| off(double::cie94(d1, d2, dk, Cie94::ALL[i]), cie94(s1, s2, k, Cie94::ALL[i]));
+    [off(double::ciede2000(d1, d2, dk), ciede2000(s1, s2, k)), of94(0), of94(1), of94(2), of94(3)]
 }
 
 /// Symmetry, zero, and the deviation from double precision, on random pairs of every kind.
 fn random_pairs(t: &mut Tally) {
     let mut r = Random::new(1);
-    let mut largest = [(0.0, None); 3];
+    let mut largest = [(0.0, None); 5];
     let mut count = 0;
     for kind in KINDS.into_iter().cycle().take(1_200_000) {
         let (r1, r2) = cases::pair(kind, &mut r);
@@ -303,6 +340,12 @@ fn random_pairs(t: &mut Tally) {
             let signed = |f: &[i128; FIGURES]| [f[12], f[19], f[20], f[21]];
             t.same(("signs turned round", s1, s2, k), signed(&there), signed(&back).map(|x| -x));
             t.same(("zero for equal samples", s1), ciede2000(s1, s1, k), 0);
+            for kind in Cie94::ALL {
+                t.same(("zero for equal samples", s1, kind), cie94(s1, s1, k, kind), 0);
+                if !kind.standard {
+                    t.same(("symmetry", s1, s2, k, kind), cie94(s1, s2, k, kind), cie94(s2, s1, k, kind));
+                }
+            }
         }
         for (largest, off) in largest.iter_mut().zip(deviations(s1, s2, k)) {
             if off > largest.0 {
@@ -312,9 +355,10 @@ fn random_pairs(t: &mut Tally) {
         count += 1;
     }
     t.report("symmetry and zero, 12 kinds of pairs");
-    for (name, (off, at)) in ["CIEDE2000", "CIE94", "CIE94 for textiles"].into_iter().zip(largest) {
+    let of94 = Cie94::ALL.map(|kind| format!("{kind:?}"));
+    for (name, (off, at)) in ["CIEDE2000".to_string()].into_iter().chain(of94).zip(largest) {
         println!("reference: {name} of {count} pairs against double precision: largest deviation {off:.7}, at {at:?}");
-        t.same((name, "deviation below 0.001"), off < 0.001, true);
+        t.same((&name, "deviation below 0.001"), off < 0.001, true);
     }
 }
 
@@ -380,6 +424,7 @@ fn main() {
     refusals(&mut t);
     lines(&mut t);
     lab_texts(&mut t);
+    cie94_by_hand(&mut t);
     table_one(&mut t);
     table_one_figures(&mut t);
     sines(&mut t);

@@ -5,6 +5,7 @@ use interface as lq;
 use reference::calls::{self, double};
 use reference::deck;
 use reference::tally::Tally;
+use reference::working::Cie94;
 
 const NAN: f32 = f32::NAN;
 const INFINITY: f32 = f32::INFINITY;
@@ -54,8 +55,8 @@ fn compare(t: &mut Tally, r1: [f32; 3], r2: [f32; 3], k: [f32; 3]) {
         Err(refusal) => (refusal, [0; 23]),
     };
     t.same(("figures", r1, r2, k), lq::figures(r1, r2, k), wanted);
-    for textile in [false, true] {
-        t.same(("CIE94", r1, r2, k), lq::cie94(r1, r2, k, textile), answer(calls::cie94(r1, r2, k, textile)));
+    for kind in Cie94::ALL {
+        t.same(("CIE94", r1, r2, k, kind), lq::cie94(r1, r2, k, kind), answer(calls::cie94(r1, r2, k, kind)));
     }
 }
 

@@ -8,7 +8,7 @@ use reference::cases::{self, Kind, float};
 use reference::floats::is_tie;
 use reference::random::Random;
 use reference::tally::Tally;
-use reference::working::{Lab, Weights, cie76, cie94, ciede2000, figures};
+use reference::working::{Cie94, Lab, Weights, cie76, cie94, ciede2000, figures};
 
 /// The arguments of a call, with their limits.
 const ARGUMENTS: [(&str, f32, f32); 10] = [
@@ -106,8 +106,8 @@ fn compare(t: &mut Tally, argument: usize, tie: f32, r: &mut Random) {
     let (r1, r2, floats) = ([l1, a1, b1], [l2, a2, b2], [kl, kc, kh]);
     let answer = |millionths: i128| (0, double(millionths).to_bits());
     t.same((about, "CIE76"), lq::cie76(r1, r2), answer(cie76(s1, s2)));
-    for textile in [false, true] {
-        t.same((about, "CIE94"), lq::cie94(r1, r2, floats, textile), answer(cie94(s1, s2, k, textile)));
+    for kind in Cie94::ALL {
+        t.same((about, kind), lq::cie94(r1, r2, floats, kind), answer(cie94(s1, s2, k, kind)));
     }
     t.same((about, "CIEDE2000"), lq::ciede2000(r1, r2, floats), answer(difference(whole)));
     t.same((about, "figures"), lq::figures(r1, r2, floats), (0, figures(s1, s2, k).map(|x| x as i64)));

@@ -20,7 +20,11 @@ use Rattle.difference.specs.Parts.{weighted, partOf, partsOf, squared, s
 use Rattle.difference.specs.Pair.{sampleChroma, pairRatio, primedOf, plainOf, pointHue, pairFar, pairHueDifference}
 use Rattle.difference.specs.Pair.{pairMeanHue, termsOf, lightnessDifference, chromaDifference}
 use Rattle.difference.specs.Cie76.{cie76Of}
-use Rattle.difference.specs.Cie94.{chromaWeight94, hueWeight94, parts94Of, cie94Of}
+use Rattle.difference.specs.Cie94.{weightingChroma, weightingFunction, parts94Of, cie94Of}
+use Rattle.difference.specs.declared.cie94.Application.{Application}
+use Rattle.difference.specs.declared.cie94.Application.the-variants.{GraphicArts, Textiles}
+use Rattle.difference.specs.declared.cie94.Comparison.{Comparison}
+use Rattle.difference.specs.declared.cie94.Comparison.the-variants.{WithStandard, WithoutStandard}
 use Rattle.difference.specs.Ciede2000.{parts00Of, terms00Of, figuresFrom, figuresOf}
 
 abbrev pub sample : ℕ → ℤ → ℤ → Sample
@@ -49,14 +53,38 @@ pub cie76-pair-1 : cie76Of first second ≡ 4001063
 unfolding nextRoot rootIn rootOf squared lightnessDifference cie76Of
 cie76-pair-1 = refl
 
--- CIE94 of pair 1, graphic arts and textile, and with the samples exchanged: it is not symmetric
-pub cie94-pair-1 :
-    cie94Of false (weights 10000) first second ∷ cie94Of true (weights 10000) first second ∷ cie94Of false (weights 10000) second first ∷ [] ≡
-    1395038 ∷ 1423045 ∷ 1365284 ∷ []
+-- CIE94 for graphic arts and for textiles, with a standard and then without
+unfoldable pub row94 : Sample × Sample → List ℕ
+row94 r = of GraphicArts WithStandard ∷ of Textiles WithStandard ∷ of GraphicArts WithoutStandard ∷ of Textiles WithoutStandard ∷ []
+  where
+    of : Application → Comparison → ℕ
+    of application comparison = cie94Of application comparison (weights 10000) (r .0) (r .1)
+
+-- pair 1, both ways round: without a standard it is the same; chromas 9 and 4, whose root(C1 × C2) is 6, of one hue and a
+-- quarter of a turn apart; a grey, beside which
+-- no chroma weighs
+unfoldable pub pairs94 : List (Sample × Sample)
+pairs94 =
+    (first, second) ∷
+    (second, first) ∷
+    (sample 500000 (pos 90000) (pos 0), sample 500000 (pos 40000) (pos 0)) ∷
+    (sample 500000 (pos 0) (pos 90000), sample 500000 (pos 40000) (pos 0)) ∷
+    (sample 500000 (pos 100000) (pos 0), greyOf 500000) ∷
+    []
+
+pub cie94-rows :
+    map row94 pairs94 ≡
+    (1395038 ∷ 1423045 ∷ 1380128 ∷ 1408308 ∷ []) ∷
+    (1365284 ∷ 1393629 ∷ 1380128 ∷ 1408308 ∷ []) ∷
+    (3558718 ∷ 3491620 ∷ 3937007 ∷ 3881987 ∷ []) ∷
+    (8279813 ∷ 8305376 ∷ 8723587 ∷ 8737476 ∷ []) ∷
+    (6896551 ∷ 6756756 ∷ 10000000 ∷ 10000000 ∷ []) ∷
+    []
 unfolding nextRoot rootIn rootOf sumOfSquares chromaOf inTenMillionths grey quadrantOf crossOf laterIn secondLater
     oppositeOf noHueOf hueNegative dotOf hueSize hueDifferenceOf weighted partOf partsOf squared sumOf combined sampleChroma
-    plainOf pairHueDifference lightnessDifference chromaDifference chromaWeight94 hueWeight94 parts94Of cie94Of
-cie94-pair-1 = refl
+    plainOf pairHueDifference lightnessDifference chromaDifference weightingChroma weightingFunction
+    parts94Of cie94Of row94 pairs94
+cie94-rows = refl
 
 -- kL, sample 1 and sample 2: the greys L 50 and 40, at two weights, and L 0 and 100; pair 1, pair 7 whose sample 1 is grey,
 -- and pairs 9, 10 and 11, whose hues

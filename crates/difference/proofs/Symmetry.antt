@@ -1,11 +1,13 @@
 -- The exchange of the samples. CIEDE2000 and CIE76 are the same from sample 2 to sample 1, for all samples and all weights;
 -- of CIEDE2000's figures the signed
--- ones change their sign, those of one sample change places, and all others stay. CIE94 has no such law: its weights are those of sample 1's chroma.
+-- ones change their sign, those of one sample change places, and all others stay. CIE94 is the same without a standard, and
+-- its parts change their sign;
+-- with one it has no such law, its weights being those of sample 1's chroma.
 -- Assumes nothing.
 use mathlib.Core.Path.{_≡_, sym, ap, _∙_}
 use mathlib.Core.Bool.{or-comm}
 use Prim.Native.Nat.{ℕ, _+_, _*_}
-use native.Mathlib.Nat.{add-comm}
+use native.Mathlib.Nat.{add-comm, mul-comm}
 use lib.IntN.{ℤ, pos, negℤ, natAbs, _-ℤ_, _*ℤ_, negℤ-negℤ}
 use lib.Signed.{quotZ}
 use Rattle.isqrt.specs.Root.{rootOf}
@@ -18,10 +20,13 @@ use Rattle.hue_difference.specs.HueDifference.{meanHueOf}
 use Rattle.hue_difference.proofs.HueDifferenceLaws.{far-swap, hue-difference-swap, mean-hue-swap}
 use Rattle.weighting.proofs.WeightingLaws.{lightness-weight-comm}
 use Rattle.difference.specs.Parts.{Parts, weighted, partOf, partsOf, squared, sumOf, combined}
-use Rattle.difference.specs.Pair.{Point, sampleChroma, pairRatio, primedOf, pointHue, pairFar, pairHueDifference}
+use Rattle.difference.specs.Pair.{Point, sampleChroma, pairRatio, primedOf, plainOf, pointHue, pairFar, pairHueDifference}
 use Rattle.difference.specs.Pair.{pairMeanHue, termsOf, lightnessDifference, chromaDifference}
 use Rattle.difference.specs.Ciede2000.{Figures, parts00Of, terms00Of, figuresFrom, figuresOf, ciede2000Of}
 use Rattle.difference.specs.Cie76.{cie76Of}
+use Rattle.difference.specs.Cie94.{chromaConstant, hueConstant, weightingChroma, weightingFunction, parts94Of, cie94Of}
+use Rattle.difference.specs.declared.cie94.Application.{Application}
+use Rattle.difference.specs.declared.cie94.Comparison.the-variants.{WithoutStandard}
 
 -- ---- step 12 of the opposite differences
 
@@ -194,6 +199,32 @@ module _ (w : FixedWeights) (s t : Sample) where
   pub h-exchanged : figuresOf w t s .parts .h ≡ negℤ (figuresOf w s t .parts .h)
   unfolding negated
   h-exchanged = ap (λ p. p .h) parts-exchanged
+
+-- ---- CIE94 without a standard
+
+-- root(C1 × C2) stays
+pub weighting-chroma-exchanged : (c1 c2 : ℕ) → weightingChroma WithoutStandard c2 c1 ≡ weightingChroma WithoutStandard c1 c2
+unfolding weightingChroma
+weighting-chroma-exchanged c1 c2 = ap rootOf (mul-comm c2 c1)
+
+module _ (application : Application) (w : FixedWeights) (s t : Sample) where
+  -- the parts change their sign
+  pub parts94-exchanged : parts94Of application WithoutStandard w t s ≡ negated (parts94Of application WithoutStandard w s t)
+  unfolding parts94Of
+  parts94-exchanged =
+      let c = weighting-chroma-exchanged (sampleChroma s) (sampleChroma t) in
+      let p = plainOf s in
+      let q = plainOf t in
+      (λ i. partsOf w (lightness-exchanged s t i) (chroma-exchanged s t p q i) (hue-exchanged s t p q i) 1000000000
+      (weightingFunction (chromaConstant application) (c i)) (weightingFunction (hueConstant application) (c i)))
+      ∙ parts-negated w (lightnessDifference s t) (chromaDifference p q) (pairHueDifference s t p q) _ _ _
+
+  -- and the difference stays
+  pub cie94-symmetric : cie94Of application WithoutStandard w t s ≡ cie94Of application WithoutStandard w s t
+  unfolding cie94Of
+  cie94-symmetric = ap (λ p. combined p 0) parts94-exchanged ∙ combined-negated _ 0
+
+-- ---- CIE76
 
 -- CIE76 is symmetric
 pub cie76-symmetric : (s t : Sample) → cie76Of t s ≡ cie76Of s t

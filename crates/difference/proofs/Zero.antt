@@ -1,7 +1,6 @@
 -- Equal samples: CIEDE2000, CIE94 and CIE76 of a sample and itself are 0, for all samples and all weights, and so is each signed part.
 -- Assumes nothing.
 use mathlib.Core.Path.{_≡_, ap, _∙_}
-use mathlib.Core.Bool.{Bool}
 use Prim.Native.Nat.{ℕ, _+_, _*_}
 use native.Mathlib.Nat.{le-refl, zero-mul, zero-div}
 use native.Mathlib.Omega.{arith}
@@ -16,6 +15,8 @@ use Rattle.difference.specs.Pair.{Point, pairRatio, primedOf, plainOf, p
 use Rattle.difference.specs.Cie76.{cie76Of}
 use Rattle.difference.specs.Cie94.{parts94Of, cie94Of}
 use Rattle.difference.specs.Ciede2000.{parts00Of, figuresFrom, figuresOf, ciede2000Of}
+use Rattle.difference.specs.declared.cie94.Application.{Application}
+use Rattle.difference.specs.declared.cie94.Comparison.{Comparison}
 
 -- ---- no differences
 
@@ -76,14 +77,14 @@ module _ (w : FixedWeights) (s : Sample) where
   ciede2000-equal = ap (λ p. combined p (figuresOf w s s .terms .r)) parts-equal ∙ combined-zero _
 
   -- so are the parts of CIE94
-  pub parts94-equal : (textile : Bool) → parts94Of textile w s s ≡ noParts
+  pub parts94-equal : (application : Application) (comparison : Comparison) → parts94Of application comparison w s s ≡ noParts
   unfolding parts94Of
-  parts94-equal textile = from-zero (plainOf s) _ _ _
+  parts94-equal application comparison = from-zero (plainOf s) _ _ _
 
-  -- CIE94 of equal samples is 0, with either constants
-  pub cie94-equal : (textile : Bool) → cie94Of textile w s s ≡ 0
+  -- CIE94 of equal samples is 0, with either constants, with and without a standard
+  pub cie94-equal : (application : Application) (comparison : Comparison) → cie94Of application comparison w s s ≡ 0
   unfolding cie94Of
-  cie94-equal textile = ap (λ p. combined p 0) (parts94-equal textile) ∙ combined-zero 0
+  cie94-equal application comparison = ap (λ p. combined p 0) (parts94-equal application comparison) ∙ combined-zero 0
 
 -- CIE76 of equal samples is 0
 pub cie76-equal : (s : Sample) → cie76Of s s ≡ 0

@@ -70,6 +70,11 @@ pub record IsParts (x : Parts) (p : SignedParts) : Type 0 where
   pub is : signedParts p ≡ x
   pub small : SignedPartsIn p
 
+-- r is the chroma x, within the bound of every accepted sample's
+pub record IsChroma (x r : ℕ) : Type 0 where
+  pub is : r ≡ x
+  pub high : r ≤ 1810193359
+
 -- r is the weighting function x, within the bounds that every one of them has
 pub record Weight (x r : ℕ) : Type 0 where
   pub is : r ≡ x

@@ -1,15 +1,30 @@
-// CIE94: unprimed chroma, weighting functions of the standard's chroma, no rotation term.
-ghost use Prim.Native.Nat.{_≤_};
+// CIE94: unprimed chroma, no rotation term, weighting functions of the standard's chroma or, where
+// neither sample is a standard, of the geometric mean of both.
+ghost use mathlib.Core.Path.{_≡_};
+ghost use Prim.Native.Nat.{_*_, _^_, _≤_, _<_};
+ghost use Rattle.isqrt.specs.Root.{rootOf};
 ghost use Rattle.signed.specs.Inner.{Within};
 ghost use Rattle.sample.specs.Inner.{WeightsIn};
 ghost use Rattle.difference.specs.Pair.{plainOf, pairHueDifference};
-ghost use Rattle.difference.specs.Cie94.{chromaWeight94, hueWeight94, parts94Of, cie94Of};
-ghost use Rattle.difference.specs.Inner.{preparedSample, Ready, IsPoint, IsParts, Weight, Millionths};
+ghost use Rattle.difference.specs.Cie94.{chromaConstant, hueConstant, weightingChroma, weightingFunction, parts94Of, cie94Of};
+ghost use Rattle.difference.specs.Inner.{preparedSample, Ready, IsPoint, IsParts, IsChroma, Weight, Millionths};
 use super::parts::SignedParts;
 use super::prepared::Coordinates;
 use super::prepared::Prepared;
 use sample::FixedWeights;
 use signed::Int;
+
+// What is compared: it has its own constants in the weighting functions.
+pub enum Application {
+    GraphicArts,
+    Textiles,
+}
+
+// Whether sample 1 is a standard. Without one the difference is the same with the samples exchanged.
+pub enum Comparison {
+    WithStandard,
+    WithoutStandard,
+}
 
 // 1000 a, 1000 b and C.
 fn plain(s: Prepared) -> Coordinates
@@ -23,26 +38,52 @@ fn plain(s: Prepared) -> Coordinates
     }
 }
 
-// SC; the constant for textiles is another.
-fn chroma_weight94(textile: bool, c: u64) -> u64
-    requires { ⌜ c ≤ 1810193359 ⌝ }
-    ensures { λ r. ⌜ Weight (chromaWeight94 textile c) r ⌝ }
+// The root of C1 × C2.
+fn geometric_mean(c1: u64, c2: u64) -> u64
+    requires { ⌜ c1 * c2 < 2 ^ 64 ⌝ }
+    ensures { λ r. ⌜ r ≡ rootOf (c1 * c2) ⌝ }
 {
-    if textile {
-        return sine::ONE + 48 * c / 10;
-    }
-    sine::ONE + 45 * c / 10
+    isqrt::isqrt(c1 * c2)
 }
 
-// SH.
-fn hue_weight94(textile: bool, c: u64) -> u64
-    requires { ⌜ c ≤ 1810193359 ⌝ }
-    ensures { λ r. ⌜ Weight (hueWeight94 textile c) r ⌝ }
+// The chroma that SC and SH use.
+fn weighting_chroma(comparison: Comparison, c1: u64, c2: u64) -> u64
+    requires { ⌜ c1 ≤ 1810193359 ⌝ }
+    requires { ⌜ c2 ≤ 1810193359 ⌝ }
+    ensures { λ r. ⌜ IsChroma (weightingChroma comparison c1 c2) r ⌝ }
 {
-    if textile {
-        return sine::ONE + 14 * c / 10;
+    match comparison {
+        Comparison::WithStandard => c1,
+        Comparison::WithoutStandard => geometric_mean(c1, c2),
     }
-    sine::ONE + 15 * c / 10
+}
+
+// K1 and K2, in 1/1,000.
+fn chroma_constant(application: Application) -> u64
+    ensures { λ r. ⌜ r ≡ chromaConstant application ⌝ }
+{
+    match application {
+        Application::GraphicArts => 45,
+        Application::Textiles => 48,
+    }
+}
+
+fn hue_constant(application: Application) -> u64
+    ensures { λ r. ⌜ r ≡ hueConstant application ⌝ }
+{
+    match application {
+        Application::GraphicArts => 15,
+        Application::Textiles => 14,
+    }
+}
+
+// SC and SH, of their constant and the chroma that they use.
+fn weighting_function(constant: u64, c: u64) -> u64
+    requires { ⌜ constant ≤ 48 ⌝ }
+    requires { ⌜ c ≤ 1810193359 ⌝ }
+    ensures { λ r. ⌜ Weight (weightingFunction constant c) r ⌝ }
+{
+    sine::ONE + constant * c / 10
 }
 
 // Steps 6 and 7 on 1000 a and 1000 b.
@@ -70,26 +111,39 @@ fn hue_difference94(s: Prepared, t: Prepared) -> Int
 }
 
 // The lightness, chroma and hue parts.
-fn parts94(w: FixedWeights, textile: bool, s: Prepared, t: Prepared) -> SignedParts
+fn parts94(
+    w: FixedWeights,
+    application: Application,
+    comparison: Comparison,
+    s: Prepared,
+    t: Prepared,
+) -> SignedParts
     requires { ⌜ WeightsIn w ⌝ }
     requires { ⌜ Ready s ⌝ }
     requires { ⌜ Ready t ⌝ }
-    ensures { λ r. ⌜ IsParts (parts94Of textile w (preparedSample s) (preparedSample t)) r ⌝ }
+    ensures { λ r. ⌜ IsParts (parts94Of application comparison w (preparedSample s) (preparedSample t)) r ⌝ }
 {
     let h = hue_difference94(s, t);
     let l = signed::natural_difference(t.l, s.l);
     let c = signed::natural_difference(t.chroma, s.chroma);
-    let sc = chroma_weight94(textile, s.chroma);
-    let sh = hue_weight94(textile, s.chroma);
+    let chroma = weighting_chroma(comparison, s.chroma, t.chroma);
+    let sc = weighting_function(chroma_constant(application), chroma);
+    let sh = weighting_function(hue_constant(application), chroma);
     super::parts::parts(w, l, c, h, sine::ONE, sc, sh)
 }
 
-// CIE94 of two samples, in millionths; `textile` takes the constants for textiles.
-pub fn cie94(w: FixedWeights, textile: bool, s: Prepared, t: Prepared) -> u64
+// CIE94 of two samples, in millionths.
+pub fn cie94(
+    w: FixedWeights,
+    application: Application,
+    comparison: Comparison,
+    s: Prepared,
+    t: Prepared,
+) -> u64
     requires { ⌜ WeightsIn w ⌝ }
     requires { ⌜ Ready s ⌝ }
     requires { ⌜ Ready t ⌝ }
-    ensures { λ r. ⌜ Millionths (cie94Of textile w (preparedSample s) (preparedSample t)) r ⌝ }
+    ensures { λ r. ⌜ Millionths (cie94Of application comparison w (preparedSample s) (preparedSample t)) r ⌝ }
 {
-    super::parts::root_of_parts(parts94(w, textile, s, t), 0)
+    super::parts::root_of_parts(parts94(w, application, comparison, s, t), 0)
 }

@@ -1,6 +1,6 @@
 -- What the C interface hands over: each call's refusal number, and its results through pointers. Assumes nothing.
 use mathlib.Core.Path.{_≡_}
-use mathlib.Core.Bool.{Bool, cond}
+use mathlib.Core.Bool.{Bool, true, false, cond}
 use mathlib.Core.List.{List}
 use Prim.Native.Nat.{ℕ}
 use lib.Ieee.{Float}
@@ -14,6 +14,10 @@ use Rattle.deck.specs.declared.Found.{Found}
 use Rattle.deck.specs.declared.Found.the-variants.{Count, Refused as FoundRefused, Short}
 use Rattle.deck_file.specs.Transfers.{Columns, writeAnswer, readAnswer, transferNumber, transferSize, Writes, Reads}
 use Rattle.lab_text.specs.Imports.{Columns as LabColumns, importAnswer, Imports}
+use Rattle.difference.specs.declared.cie94.Application.{Application}
+use Rattle.difference.specs.declared.cie94.Application.the-variants.{GraphicArts, Textiles}
+use Rattle.difference.specs.declared.cie94.Comparison.{Comparison}
+use Rattle.difference.specs.declared.cie94.Comparison.the-variants.{WithStandard, WithoutStandard}
 use Rattle.measure.specs.Answers.{refusalOf, differenceOf}
 use Rattle.measure.specs.declared.Difference.{Difference}
 
@@ -22,6 +26,15 @@ reading x y z = record { l = x; a = y; b = z }
 
 abbrev pub weights : Float → Float → Float → Weights
 weights x y z = record { l = x; c = y; h = z }
+
+-- CIE94's two truth values: the constants for textiles, and sample 1 a standard
+abbrev pub applicationOf : Bool → Application
+applicationOf true = Textiles
+applicationOf false = GraphicArts
+
+abbrev pub comparisonOf : Bool → Comparison
+comparisonOf true = WithStandard
+comparisonOf false = WithoutStandard
 
 -- the number returned and the double behind the pointer are those of the answer
 pub record Hands (answer : Difference) (number : ℕ) (double : Float) : Type 0 where

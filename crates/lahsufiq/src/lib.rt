@@ -12,11 +12,13 @@ ghost use Rattle.measure.specs.Calls.{pairRefusal, weightedRefusal, verdictRefu
 ghost use Rattle.deck.specs.Deck.{asked, columns};
 ghost use Rattle.deck.specs.Answers.{numberOf};
 ghost use Rattle.deck_file.specs.Transfers.{transferNumber, transferSize, lent};
-ghost use Rattle.lahsufiq.specs.Interface.{reading, weights, oneOf, handedCount, Hands, HandsSearch};
+ghost use Rattle.lahsufiq.specs.Interface.{reading, weights, applicationOf, comparisonOf, oneOf, handedCount, Hands, HandsSearch};
 ghost use Rattle.lab_text.specs.Imports.{lent as lentColumns};
 ghost use Rattle.lahsufiq.specs.Interface.{HandsWrite, HandsRead, HandsImport};
 use deck::Found;
 use deck_file::Transfer;
+use difference::cie94::Application;
+use difference::cie94::Comparison;
 use fixed_point::Reading;
 use fixed_point::Weights;
 use measure::Difference;
@@ -73,7 +75,27 @@ pub extern "C" fn lq_cie76(
     number(d)
 }
 
-// CIE94 of two readings, with the constants for textiles where asked.
+// The constants that a truth value of C asks for.
+fn application(textile: bool) -> Application
+    ensures { λ r. ⌜ r ≡ applicationOf textile ⌝ }
+{
+    if textile {
+        return Application::Textiles;
+    }
+    Application::GraphicArts
+}
+
+// Whether sample 1 is a standard, from a truth value of C.
+fn comparison(standard: bool) -> Comparison
+    ensures { λ r. ⌜ r ≡ comparisonOf standard ⌝ }
+{
+    if standard {
+        return Comparison::WithStandard;
+    }
+    Comparison::WithoutStandard
+}
+
+// CIE94 of two readings, with the constants for textiles where asked, sample 1 a standard or not.
 #[no_mangle]
 pub extern "C" fn lq_cie94(
     l1: f32,
@@ -86,13 +108,15 @@ pub extern "C" fn lq_cie94(
     kc: f32,
     kh: f32,
     textile: bool,
+    standard: bool,
     difference: &mut f64,
 ) -> u32
     ensures { λ r.
         let s = reading l1 a1 b1 in
         let t = reading l2 a2 b2 in
         let w = weights kl kc kh in
-        let answer = answerOf (weightedRefusal s t w) (cie94Of textile (weightsOf w) (sampleOf s) (sampleOf t)) in
+        let millionths = cie94Of (applicationOf textile) (comparisonOf standard) (weightsOf w) (sampleOf s) (sampleOf t) in
+        let answer = answerOf (weightedRefusal s t w) millionths in
         ⌜ Hands answer r (now (difference .exit)) ⌝ }
 {
     let s = Reading {
@@ -110,7 +134,7 @@ pub extern "C" fn lq_cie94(
         c: kc,
         h: kh,
     };
-    let d = measure::cie94(s, t, w, textile);
+    let d = measure::cie94(s, t, w, application(textile), comparison(standard));
     *difference = value(d);
     number(d)
 }

@@ -16,7 +16,11 @@ use Rattle.sample.specs.declared.Lab.{Lab}
 use Rattle.sample.proofs.RefusalLaws.{first-none, first-last, first-then}
 use Rattle.fixed_point.proofs.FixedLaws.{sample-in}
 use Rattle.difference.specs.Ciede2000.{Figures, ciede2000Of}
-use Rattle.difference.proofs.Symmetry.{ciede2000-symmetric}
+use Rattle.difference.specs.Cie94.{cie94Of}
+use Rattle.difference.specs.declared.cie94.Application.{Application}
+use Rattle.difference.specs.declared.cie94.Comparison.{Comparison}
+use Rattle.difference.specs.declared.cie94.Comparison.the-variants.{WithoutStandard}
+use Rattle.difference.proofs.Symmetry.{ciede2000-symmetric, cie94-symmetric}
 use Rattle.difference.proofs.Zero.{ciede2000-equal}
 use Rattle.measure.specs.Answers.{doubleOf, answerOf, yesOf, figuresRow, figuresAnswer}
 use Rattle.measure.specs.Calls.{pairRefusal, weightedRefusal, verdictRefusal}
@@ -104,3 +108,20 @@ with-laws s t w e = (
         (ciede2000-equal (weightsOf w) (sampleOf s))),
   ),
 )
+
+-- ---- what follows of an answer that is CIE94's
+module _ (application : Application) (comparison : Comparison) (w : Weights) (s t : Reading) where
+  abbrev cie94In : Comparison → Reading → Reading → ℕ
+  cie94In c x y = cie94Of application c (weightsOf w) (sampleOf x) (sampleOf y)
+
+  abbrev Answers94 : Difference → Reading → Reading → Type 0
+  Answers94 r x y = r ≡ answerOf (weightedRefusal s t w) (cie94In comparison x y)
+
+  -- without a standard it is the same with the samples exchanged
+  pub with-exchange : {r : Difference} → Answers94 r s t → Answers94 r s t × (comparison ≡ WithoutStandard → Answers94 r t s)
+  with-exchange e = (
+    e,
+    (λ without. e ∙ ap (λ (n : ℕ). answerOf (weightedRefusal s t w) n)
+        (ap (λ (c : Comparison). cie94In c s t) without ∙ cie94-symmetric application (weightsOf w) (sampleOf t) (sampleOf s)
+        ∙ ap (λ (c : Comparison). cie94In c t s) (sym without))),
+  )

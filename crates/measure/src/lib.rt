@@ -9,11 +9,14 @@ ghost use Rattle.fixed_point.specs.Refusals.{readingRefusal};
 ghost use Rattle.fixed_point.specs.Samples.{sampleOf, weightsOf};
 ghost use Rattle.difference.specs.Cie76.{cie76Of};
 ghost use Rattle.difference.specs.Cie94.{cie94Of};
+ghost use Rattle.difference.specs.declared.cie94.Comparison.the-variants.{WithoutStandard};
 ghost use Rattle.difference.specs.Ciede2000.{figuresOf, ciede2000Of};
 ghost use Rattle.difference.specs.Inner.{intermediateFigures, IsPrepared, IsFigures, FiguresIn, Millionths};
 ghost use Rattle.measure.specs.Answers.{doubleOf, answerOf, figuresRow, figuresAnswer};
 ghost use Rattle.measure.specs.Calls.{pairRefusal, weightedRefusal, verdictRefusal};
 ghost use Rattle.measure.specs.Judged.{Judged};
+use difference::cie94::Application;
+use difference::cie94::Comparison;
 use difference::ciede2000::Intermediates;
 use difference::prepared::Prepared;
 use fixed_point::Reading;
@@ -94,20 +97,32 @@ fn prepared(r: Reading) -> Prepared
     difference::prepared::prepare(fixed_point::fixed_reading(r))
 }
 
-// CIE94 of two readings; `textile` takes the constants for textiles, 48 and 14 for 45 and 15.
-pub fn cie94(standard: Reading, sample: Reading, weights: Weights, textile: bool) -> Difference
-    ensures { λ r.
-        let refusal = weightedRefusal standard sample weights in
-        ⌜ r ≡ answerOf refusal (cie94Of textile (weightsOf weights) (sampleOf standard) (sampleOf sample)) ⌝ }
+// CIE94 of two readings: the caller says which constants it takes, and whether the first sample is a
+// standard. Without a standard it is the same with the samples exchanged.
+pub fn cie94(
+    first: Reading,
+    second: Reading,
+    weights: Weights,
+    application: Application,
+    comparison: Comparison,
+) -> Difference
+    ensures is { λ r.
+        let refusal = weightedRefusal first second weights in
+        let millionths = cie94Of application comparison (weightsOf weights) (sampleOf first) (sampleOf second) in
+        ⌜ r ≡ answerOf refusal millionths ⌝ }
+    ensures symmetric { λ r.
+        let refusal = weightedRefusal first second weights in
+        let exchanged = cie94Of application comparison (weightsOf weights) (sampleOf second) (sampleOf first) in
+        ⌜ (comparison ≡ WithoutStandard → r ≡ answerOf refusal exchanged) ⌝ }
 {
-    let refusal = weighted_refusal(standard, sample, weights);
+    let refusal = weighted_refusal(first, second, weights);
     if refusal != 0 {
         return Difference::Refused(refusal);
     }
     let w = fixed_point::fixed_weights(weights);
-    let s = prepared(standard);
-    let t = prepared(sample);
-    Difference::Of(double(difference::cie94::cie94(w, textile, s, t)))
+    let s = prepared(first);
+    let t = prepared(second);
+    Difference::Of(double(difference::cie94::cie94(w, application, comparison, s, t)))
 }
 
 // CIEDE2000 of an accepted pair, in millionths.

@@ -12,6 +12,8 @@ use Rattle.sample.specs.Refusals.{firstOf}
 use Rattle.sample.proofs.RefusalLaws.{first-none}
 use Rattle.difference.specs.Cie76.{cie76Of}
 use Rattle.difference.specs.Cie94.{cie94Of}
+use Rattle.difference.specs.declared.cie94.Application.the-variants.{GraphicArts}
+use Rattle.difference.specs.declared.cie94.Comparison.the-variants.{WithStandard}
 use Rattle.difference.specs.Ciede2000.{Figures, figuresOf}
 use Rattle.text.specs.Figures.{figuresText, refusedText}
 use Rattle.text.specs.Text.{plainWeights, figuresList, figuresLine, pairAnswer}
@@ -48,7 +50,7 @@ module _ (s t : Colour) {r : ℕ} (f : r ≡ firstOf (colourRefusal s) (colourRe
 
 -- the six figures from the calls that work them out
 pub six-figures : {s t p q : Sample} (six : Six) {d76 d94 : ℕ} {f : Figures} → p ≡ s → q ≡ t
-    → int (six .d76) ≡ pos d76 → d76 ≡ cie76Of s t → int (six .d94) ≡ pos d94 → d94 ≡ cie94Of false plainWeights p q
+    → int (six .d76) ≡ pos d76 → d76 ≡ cie76Of s t → int (six .d94) ≡ pos d94 → d94 ≡ cie94Of GraphicArts WithStandard plainWeights p q
     → int (six .d00) ≡ pos (f .difference) → f .parts ≡ record { l = int (six .l); c = int (six .c); h = int (six .h) }
     → f ≡ figuresOf plainWeights p q → figuresText (sixList six) ≡ figuresLine s t
 unfolding figuresLine figuresList
@@ -56,7 +58,7 @@ six-figures {s} {t} {p} {q} six {d76} {d94} {f} ps qt n76 is76 n94 is94 n00 part
     let x : f ≡ figuresOf plainWeights s t = is00 ∙ (λ i. figuresOf plainWeights (ps i) (qt i)) in
     let y = sym parts ∙ ap (λ (g : Figures). g .parts) x in
     let a76 : int (six .d76) ≡ pos (cie76Of s t) = cc in
-    let a94 : int (six .d94) ≡ pos (cie94Of false plainWeights s t) = cc in
+    let a94 : int (six .d94) ≡ pos (cie94Of GraphicArts WithStandard plainWeights s t) = cc in
     let a00 : int (six .d00) ≡ pos (figuresOf plainWeights s t .difference) =
     n00 ∙ ap (λ (g : Figures). pos (g .difference)) x in
     λ i. figuresText (a76 i ∷ (a94 i ∷ (a00 i ∷ (y i .l ∷ (y i .c ∷ (y i .h ∷ []))))))

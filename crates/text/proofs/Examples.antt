@@ -21,7 +21,7 @@ use Rattle.weighting.specs.Weighting.{chromaWeight, hueWeight, hueDistance, rot
 use Rattle.hue_difference.specs.HueDifference.{crossOf, laterIn, secondLater, firstLater, farOf, oppositeOf, noHueOf}
 use Rattle.hue_difference.specs.HueDifference.{hueNegative, dotOf, hueSize, hueDifferenceOf, meanHueOf}
 use Rattle.difference.specs.Cie76.{cie76Of}
-use Rattle.difference.specs.Cie94.{chromaWeight94, hueWeight94, parts94Of, cie94Of}
+use Rattle.difference.specs.Cie94.{weightingChroma, weightingFunction, parts94Of, cie94Of}
 use Rattle.difference.specs.Ciede2000.{parts00Of, terms00Of, figuresFrom, figuresOf}
 use Rattle.difference.specs.Pair.{sampleChroma, pairRatio, primedOf, plainOf, pointHue, pairFar, pairHueDifference}
 use Rattle.difference.specs.Pair.{pairMeanHue, termsOf, lightnessDifference, chromaDifference}
@@ -51,7 +51,7 @@ unfolding input output lastDigits countIn digitsOf minusOf fixedText figuresText
     tenthOf restOf angleOf hueIn hueOf sumOfSquares chromaOf powerOf hypotenuseOf ratioOf primedA inTenMillionths
     primedChroma termOf hueTermZ hueTerm lightnessOffset lightnessWeightAt lightnessWeight chromaWeight hueWeight
     hueDistance rotationSine rotation crossOf laterIn secondLater firstLater farOf oppositeOf noHueOf hueNegative
-    dotOf hueSize hueDifferenceOf meanHueOf cie76Of chromaWeight94 hueWeight94 parts94Of cie94Of parts00Of terms00Of
+    dotOf hueSize hueDifferenceOf meanHueOf cie76Of weightingChroma weightingFunction parts94Of cie94Of parts00Of terms00Of
     figuresFrom figuresOf sampleChroma pairRatio primedOf plainOf pointHue pairFar pairHueDifference pairMeanHue
     termsOf lightnessDifference chromaDifference weighted partOf partsOf squared sumOf combined
 example = refl

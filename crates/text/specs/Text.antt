@@ -1,5 +1,5 @@
 -- The text program's whole output as a function of its input.
-use mathlib.Core.Bool.{false, cond}
+use mathlib.Core.Bool.{cond}
 use mathlib.Core.List.{List, [], _∷_, _++_}
 use Prim.Native.Nat.{ℕ}
 use lib.Dec.{ltb, eqb}
@@ -11,6 +11,8 @@ use Rattle.sample.specs.Refusals.{firstOf}
 use Rattle.sample.specs.declared.FixedWeights.{FixedWeights}
 use Rattle.difference.specs.Cie76.{cie76Of}
 use Rattle.difference.specs.Cie94.{cie94Of}
+use Rattle.difference.specs.declared.cie94.Application.the-variants.{GraphicArts}
+use Rattle.difference.specs.declared.cie94.Comparison.the-variants.{WithStandard}
 use Rattle.difference.specs.Ciede2000.{Figures, figuresOf}
 use Rattle.decimal.specs.Reading.{Found, found, missing}
 use Rattle.text.specs.Line.{readPair}
@@ -23,9 +25,9 @@ plainWeights = record { l = 10000; c = 10000; h = 10000 }
 unfoldable pub figuresList : ℕ → ℕ → Figures → List ℤ
 figuresList d76 d94 f = pos d76 ∷ pos d94 ∷ pos (f .difference) ∷ f .parts .l ∷ f .parts .c ∷ f .parts .h ∷ []
 
--- CIE76, CIE94 with 45 and 15, CIEDE2000 and its three parts
+-- CIE76, CIE94 with 45 and 15 and sample 1 as a standard, CIEDE2000 and its three parts
 unfoldable pub figuresLine : Sample → Sample → List ℕ
-figuresLine s t = figuresText (figuresList (cie76Of s t) (cie94Of false plainWeights s t) (figuresOf plainWeights s t))
+figuresLine s t = figuresText (figuresList (cie76Of s t) (cie94Of GraphicArts WithStandard plainWeights s t) (figuresOf plainWeights s t))
 
 -- figures where nothing is refused; sample 1 comes before sample 2
 unfoldable pub pairAnswer : Colour → Colour → List ℕ

@@ -14,6 +14,8 @@ ghost use Rattle.text.specs.Text.{figuresLine, pairAnswer, answerOf, lin
 ghost use Rattle.text.specs.Stream.{answerMost, lastText, stateOf, textSoFar, heldIn, stateHeld, Stepped, Follows};
 ghost use Rattle.text.specs.Inner.{colourFound, lineFound, sixList, Pushed};
 use decimal::Decimal;
+use difference::cie94::Application;
+use difference::cie94::Comparison;
 use sample::FixedColour;
 use sample::FixedWeights;
 use sample::Lab;
@@ -105,7 +107,7 @@ fn put_six(out: &mut [u8], at: usize, f: Six) -> usize
     decimal::put_fixed(out, i5, f.h, 6, b'\n')
 }
 
-// The figures of two samples: all weights 1, CIE94 with 45 and 15.
+// The figures of two samples: all weights 1, CIE94 with 45 and 15 and the first as a standard.
 fn work(sines: &[u32; 901], gaussians: &[u32; 1201], s: Lab, t: Lab) -> Six
     requires { ⌜ (SineTable (now sines)) × (GaussianTable (now gaussians)) ⌝ }
     requires { ⌜ (SampleIn (labOf s)) × (SampleIn (labOf t)) ⌝ }
@@ -125,7 +127,13 @@ fn work(sines: &[u32; 901], gaussians: &[u32; 1201], s: Lab, t: Lab) -> Six
     let h = parts.h;
     Six {
         d76: signed::natural(difference::cie76::cie76(s, t)),
-        d94: signed::natural(difference::cie94::cie94(w, false, p, q)),
+        d94: signed::natural(difference::cie94::cie94(
+            w,
+            Application::GraphicArts,
+            Comparison::WithStandard,
+            p,
+            q,
+        )),
         d00: signed::natural(f.difference),
         l,
         c,

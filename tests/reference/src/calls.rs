@@ -2,7 +2,7 @@
 //! of millionths.
 
 use crate::floats::{is_finite, limited};
-use crate::working::{self, FIGURES, Lab, Weights};
+use crate::working::{self, Cie94, FIGURES, Lab, Weights};
 
 pub type Reading = [f32; 3];
 /// A refusal number.
@@ -51,9 +51,9 @@ pub fn cie76(r1: Reading, r2: Reading) -> Result<i128, Refusal> {
     Ok(working::cie76(s1, s2))
 }
 
-pub fn cie94(r1: Reading, r2: Reading, k: [f32; 3], textile: bool) -> Result<i128, Refusal> {
+pub fn cie94(r1: Reading, r2: Reading, k: [f32; 3], kind: Cie94) -> Result<i128, Refusal> {
     let (s1, s2) = (sample(r1)?, sample(r2)?);
-    Ok(working::cie94(s1, s2, weights(k)?, textile))
+    Ok(working::cie94(s1, s2, weights(k)?, kind))
 }
 
 pub fn figures(r1: Reading, r2: Reading, k: [f32; 3]) -> Result<[i128; FIGURES], Refusal> {

@@ -1,6 +1,8 @@
 //! CIEDE2000 in double precision, from the equations of source 001 (2 to 22), and CIE94 from source
 //! 002; from nothing of the whole-number working.
 
+use crate::working::Cie94;
+
 /// Hues this near to half a turn apart are taken as exactly so: arctangents of doubles are off by
 /// about 10^-13 degree, and the nearest hues of grid numbers that are not exactly opposite differ
 /// from half a turn by more than 10^-11.
@@ -53,12 +55,13 @@ pub fn ciede2000(s1: [f64; 3], s2: [f64; 3], k: [f64; 3]) -> f64 {
     (l * l + c * c + h * h + rt * c * h).sqrt()
 }
 
-/// CIE94 with sample 1 as the standard.
-pub fn cie94(s1: [f64; 3], s2: [f64; 3], k: [f64; 3], textile: bool) -> f64 {
-    let (k1, k2) = if textile { (0.048, 0.014) } else { (0.045, 0.015) };
+/// CIE94; without a standard the geometric mean of both chromas weighs.
+pub fn cie94(s1: [f64; 3], s2: [f64; 3], k: [f64; 3], kind: Cie94) -> f64 {
+    let (k1, k2) = if kind.textile { (0.048, 0.014) } else { (0.045, 0.015) };
     let (c1, c2) = (s1[1].hypot(s1[2]), s2[1].hypot(s2[2]));
     let (dl, da, db, dc) = (s1[0] - s2[0], s1[1] - s2[1], s1[2] - s2[2], c1 - c2);
     let dh = (da * da + db * db - dc * dc).max(0.0).sqrt();
-    let (l, c, h) = (dl / k[0], dc / (k[1] * (1.0 + k1 * c1)), dh / (k[2] * (1.0 + k2 * c1)));
+    let mean = if kind.standard { c1 } else { (c1 * c2).sqrt() };
+    let (l, c, h) = (dl / k[0], dc / (k[1] * (1.0 + k1 * mean)), dh / (k[2] * (1.0 + k2 * mean)));
     (l * l + c * c + h * h).sqrt()
 }

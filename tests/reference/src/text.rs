@@ -1,6 +1,6 @@
 //! "Text program": the bytes that the program writes for the bytes that it reads.
 
-use crate::working::{EVEN, FIGURES, Lab, cie76, cie94, figures};
+use crate::working::{Cie94, EVEN, FIGURES, Lab, cie76, cie94, figures};
 
 pub const HEADER: &[u8] = b"de76 de94 de00 dl dc dh\n";
 
@@ -65,7 +65,7 @@ fn answer(bytes: &[u8]) -> String {
         Ok((s1, s2)) => {
             let f = figures(s1, s2, EVEN);
             let (l, c, h, de00) = (f[FIGURES - 4], f[FIGURES - 3], f[FIGURES - 2], f[FIGURES - 1]);
-            [cie76(s1, s2), cie94(s1, s2, EVEN, false), de00, l, c, h].map(shown).join(" ")
+            [cie76(s1, s2), cie94(s1, s2, EVEN, Cie94 { textile: false, standard: true }), de00, l, c, h].map(shown).join(" ")
         }
     }
 }

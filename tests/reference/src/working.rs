@@ -353,11 +353,28 @@ pub fn cie76(s1: Lab, s2: Lab) -> i128 {
     root(10_000 * (dl * dl + da * da + db * db))
 }
 
-pub fn cie94(s1: Lab, s2: Lab, k: Weights, textile: bool) -> i128 {
-    let (first, second) = if textile { (48, 14) } else { (45, 15) };
+/// What the caller of CIE94 says: which constants, and whether sample 1 is a standard.
+#[derive(Clone, Copy, PartialEq, Debug)]
+pub struct Cie94 {
+    pub textile: bool,
+    pub standard: bool,
+}
+
+impl Cie94 {
+    pub const ALL: [Cie94; 4] = [
+        Cie94 { textile: false, standard: true },
+        Cie94 { textile: true, standard: true },
+        Cie94 { textile: false, standard: false },
+        Cie94 { textile: true, standard: false },
+    ];
+}
+
+pub fn cie94(s1: Lab, s2: Lab, k: Weights, kind: Cie94) -> i128 {
+    let (first, second) = if kind.textile { (48, 14) } else { (45, 15) };
     let point = |s: Lab| Point { a: 1000 * s.a, b: 1000 * s.b, chroma: chroma(s) };
     let (p1, p2) = (point(s1), point(s2));
-    let scales = (E9, E9 + first * p1.chroma / 10, E9 + second * p1.chroma / 10);
+    let weighting = if kind.standard { p1.chroma } else { root(p1.chroma * p2.chroma) };
+    let scales = (E9, E9 + first * weighting / 10, E9 + second * weighting / 10);
     let dh = hue_part(s1, s2, p1, p2);
     parts(s2.l - s1.l, p2.chroma - p1.chroma, dh, scales, k, 0).difference
 }

@@ -5,7 +5,7 @@ use Rattle.fixed_point.proofs.FixedLaws.{weights-in}
 use Rattle.difference.specs.Cie94.{cie94Of}
 use Rattle.measure.specs.Answers.{doubleOf}
 use Rattle.measure.specs.declared.Difference.the-variants.{Refused}
-use Rattle.measure.proofs.Refusing.{refused, given, Unrefused, weighted-none}
+use Rattle.measure.proofs.Refusing.{refused, given, Unrefused, weighted-none, with-exchange}
 use borrow.Author.Needs.{needs}
 use Rattle.measure.proofs.cie94.Statement.{statement}
 use Rattle.measure.proofs.cie94.Tie as tie
@@ -13,9 +13,9 @@ use Rattle.measure.proofs.cie94.Tie as tie
 returns : tie.Need-returns
 returns c =
     let e = c .before .weighted-refusal .ensures in
-    ap Refused e ∙ refused _ _ (λ z. c .if1 .taken (e ∙ z))
+    with-exchange _ _ _ _ _ (ap Refused e ∙ refused _ _ (λ z. c .if1 .taken (e ∙ z)))
 
-none : (c : tie.Else1) → Unrefused (c .before .before .args .standard) (c .before .before .args .sample) (c .before .before .args .weights)
+none : (c : tie.Else1) → Unrefused (c .before .before .args .first) (c .before .before .args .second) (c .before .before .args .weights)
 none c = weighted-none _ _ _ (sym (c .before .weighted-refusal .ensures) ∙ c .if1 .left)
 
 fixed-weights-requires : tie.Need-fixed-weights-requires
@@ -39,11 +39,13 @@ returns-2 c =
     let p = c .before .before in
     let w = p .before .before in
     let e = w .before in
-    given _ _ (sym (e .before .weighted-refusal .ensures) ∙ e .if1 .left)
+    let x = e .before .before .args in
+    with-exchange _ _ _ _ _
+    (given _ _ (sym (e .before .weighted-refusal .ensures) ∙ e .if1 .left)
     (c .double .ensures ∙ ap doubleOf
     (c .before .cie94 .ensures .is ∙
-    (λ i. cie94Of (e .before .before .args .textile) (w .fixed-weights .ensures i) (p .before .prepared .ensures .is i)
-    (p .prepared2 .ensures .is i))))
+    (λ i. cie94Of (x .application) (x .comparison) (w .fixed-weights .ensures i) (p .before .prepared .ensures .is i)
+    (p .prepared2 .ensures .is i)))))
 
 pub cie94-spec : {M : Type 1} → statement M
 cie94-spec =
