@@ -2,6 +2,7 @@ mod Sizes
 mod Pairs
 mod Points
 -- What holds of the three differences, for all samples: theorems for readers and callers.
+pub mod WeightingChroma
 pub mod Symmetry
 pub mod Zero
 pub mod LightnessBound

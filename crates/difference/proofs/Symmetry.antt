@@ -7,7 +7,7 @@
 use mathlib.Core.Path.{_≡_, sym, ap, _∙_}
 use mathlib.Core.Bool.{or-comm}
 use Prim.Native.Nat.{ℕ, _+_, _*_}
-use native.Mathlib.Nat.{add-comm, mul-comm}
+use native.Mathlib.Nat.{add-comm}
 use lib.IntN.{ℤ, pos, negℤ, natAbs, _-ℤ_, _*ℤ_, negℤ-negℤ}
 use lib.Signed.{quotZ}
 use Rattle.isqrt.specs.Root.{rootOf}
@@ -24,9 +24,10 @@ use Rattle.difference.specs.Pair.{Point, sampleChroma, pairRatio, primed
 use Rattle.difference.specs.Pair.{pairMeanHue, termsOf, lightnessDifference, chromaDifference}
 use Rattle.difference.specs.Ciede2000.{Figures, parts00Of, terms00Of, figuresFrom, figuresOf, ciede2000Of}
 use Rattle.difference.specs.Cie76.{cie76Of}
-use Rattle.difference.specs.Cie94.{chromaConstant, hueConstant, weightingChroma, weightingFunction, parts94Of, cie94Of}
+use Rattle.difference.specs.Cie94.{chromaConstant, hueConstant, weightingFunction, parts94Of, cie94Of}
 use Rattle.difference.specs.declared.cie94.Application.{Application}
 use Rattle.difference.specs.declared.cie94.Comparison.the-variants.{WithoutStandard}
+use Rattle.difference.proofs.WeightingChroma.{mean-chroma-exchanged}
 
 -- ---- step 12 of the opposite differences
 
@@ -202,17 +203,12 @@ module _ (w : FixedWeights) (s t : Sample) where
 
 -- ---- CIE94 without a standard
 
--- root(C1 × C2) stays
-pub weighting-chroma-exchanged : (c1 c2 : ℕ) → weightingChroma WithoutStandard c2 c1 ≡ weightingChroma WithoutStandard c1 c2
-unfolding weightingChroma
-weighting-chroma-exchanged c1 c2 = ap rootOf (mul-comm c2 c1)
-
 module _ (application : Application) (w : FixedWeights) (s t : Sample) where
   -- the parts change their sign
   pub parts94-exchanged : parts94Of application WithoutStandard w t s ≡ negated (parts94Of application WithoutStandard w s t)
   unfolding parts94Of
   parts94-exchanged =
-      let c = weighting-chroma-exchanged (sampleChroma s) (sampleChroma t) in
+      let c = mean-chroma-exchanged (sampleChroma s) (sampleChroma t) in
       let p = plainOf s in
       let q = plainOf t in
       (λ i. partsOf w (lightness-exchanged s t i) (chroma-exchanged s t p q i) (hue-exchanged s t p q i) 1000000000
