@@ -1,5 +1,5 @@
-//! Checks every call on a pair, bit for bit, against the reference, and CIEDE2000 against double
-//! precision.
+//! Checks every call on a pair, bit for bit, against the reference, and CIEDE2000 and CIE94 against
+//! double precision.
 
 use interface as lq;
 use reference::calls::{self, Reading, double};
@@ -20,16 +20,8 @@ struct Deviation {
 }
 
 impl Deviation {
-    fn see(&mut self, r1: Reading, r2: Reading, k: [f32; 3], found: f64) {
-        let (s1, s2) = (calls::sample(r1).expect("accepted"), calls::sample(r2).expect("accepted"));
-        let grid = calls::weights(k).expect("accepted");
-        let doubles = |x: [i128; 3]| x.map(|x| x as f64 / 10_000.0);
-        let exact = double::ciede2000(
-            doubles([s1.l, s1.a, s1.b]),
-            doubles([s2.l, s2.a, s2.b]),
-            doubles([grid.l, grid.c, grid.h]),
-        );
-        let off = (exact - found).abs();
+    fn see(&mut self, r1: Reading, r2: Reading, k: [f32; 3], exact: f64, found: lq::Answer) {
+        let off = (exact - f64::from_bits(found.1)).abs();
         if off > self.largest {
             (self.largest, self.at) = (off, format!("{r1:?}, {r2:?}, weights {k:?}"));
         }
@@ -37,6 +29,13 @@ impl Deviation {
             self.largest_even = self.largest_even.max(off);
         }
     }
+}
+
+/// Of CIEDE2000, and of CIE94 in the order of `Cie94::ALL`.
+#[derive(Default)]
+struct Deviations {
+    ciede2000: Deviation,
+    cie94: [Deviation; Cie94::ALL.len()],
 }
 
 /// A tolerance at the difference, one grid unit off it, or anywhere.
@@ -50,9 +49,12 @@ fn answer(millionths: i128) -> lq::Answer {
 }
 
 /// All calls on one pair.
-fn compare(t: &mut Tally, r1: Reading, r2: Reading, k: [f32; 3], r: &mut Random, off: &mut Deviation) {
+fn compare(t: &mut Tally, r1: Reading, r2: Reading, k: [f32; 3], r: &mut Random, off: &mut Deviations) {
     let (s1, s2) = (calls::sample(r1).expect("accepted"), calls::sample(r2).expect("accepted"));
     let grid = calls::weights(k).expect("accepted");
+    let doubles = |x: [i128; 3]| x.map(|x| x as f64 / 10_000.0);
+    let (d1, d2) = (doubles([s1.l, s1.a, s1.b]), doubles([s2.l, s2.a, s2.b]));
+    let dk = doubles([grid.l, grid.c, grid.h]);
     let wanted = working::figures(s1, s2, grid);
     let (refusal, found) = lq::figures(r1, r2, k);
     t.same(("refusal of the figures", r1, r2, k), refusal, 0);
@@ -62,12 +64,14 @@ fn compare(t: &mut Tally, r1: Reading, r2: Reading, k: [f32; 3], r: &mut Random,
     let millionths = wanted[FIGURES - 1];
     let de00 = lq::ciede2000(r1, r2, k);
     t.same(("CIEDE2000", r1, r2, k), de00, answer(millionths));
-    off.see(r1, r2, k, f64::from_bits(de00.1));
+    off.ciede2000.see(r1, r2, k, double::ciede2000(d1, d2, dk), de00);
     t.same(("CIEDE2000 exchanged", r2, r1, k), lq::ciede2000(r2, r1, k), answer(millionths));
     t.same(("CIE76", r1, r2), lq::cie76(r1, r2), answer(working::cie76(s1, s2)));
-    for kind in Cie94::ALL {
+    for (kind, off) in Cie94::ALL.into_iter().zip(&mut off.cie94) {
         let wanted = answer(working::cie94(s1, s2, grid, kind));
-        t.same(("CIE94", r1, r2, k, kind), lq::cie94(r1, r2, k, kind), wanted);
+        let de94 = lq::cie94(r1, r2, k, kind);
+        t.same(("CIE94", r1, r2, k, kind), de94, wanted);
+        off.see(r1, r2, k, double::cie94(d1, d2, dk, kind), de94);
         if !kind.standard {
             t.same(("CIE94 exchanged", r2, r1, k, kind), lq::cie94(r2, r1, k, kind), wanted);
         }
@@ -79,7 +83,7 @@ fn compare(t: &mut Tally, r1: Reading, r2: Reading, k: [f32; 3], r: &mut Random,
 }
 
 /// Table I through the interface: the figures as ever, and the published difference.
-fn table_one(t: &mut Tally, r: &mut Random, off: &mut Deviation) {
+fn table_one(t: &mut Tally, r: &mut Random, off: &mut Deviations) {
     for row in cases::table_one() {
         for (s1, s2) in [(row.s1, row.s2), (row.s2, row.s1)] {
             let (r1, r2) = (cases::reading(s1), cases::reading(s2));
@@ -95,7 +99,7 @@ fn table_one(t: &mut Tally, r: &mut Random, off: &mut Deviation) {
 fn main() {
     let mut t = Tally::new("figures");
     let mut r = Random::new(4);
-    let mut off = Deviation::default();
+    let mut off = Deviations::default();
     table_one(&mut t, &mut r, &mut off);
     let each = PAIRS / KINDS.len();
     let mut pairs = 0;
@@ -110,8 +114,12 @@ fn main() {
         pairs += count;
         t.report(&format!("{count} pairs, {kind:?}"));
     }
-    println!("figures: {pairs} pairs against double precision: largest deviation {:.7}, at {}", off.largest, off.at);
-    println!("figures: with all weights 1: largest deviation {:.7}", off.largest_even);
-    t.same("deviation below 0.001", off.largest < 0.001, true);
+    println!("figures: {pairs} pairs against double precision");
+    let of94 = Cie94::ALL.iter().zip(&off.cie94).map(|(kind, off)| (format!("{kind:?}"), off));
+    for (name, off) in [("CIEDE2000".to_string(), &off.ciede2000)].into_iter().chain(of94) {
+        println!("figures: {name}: largest deviation {:.7}, at {}", off.largest, off.at);
+        println!("figures: {name}: with all weights 1, {:.7}", off.largest_even);
+        t.same((name, "deviation below 0.001"), off.largest < 0.001, true);
+    }
     t.end();
 }

@@ -224,10 +224,10 @@ fn four_decimals(millionths: i128) -> i128 {
     (millionths + 50) / 100
 }
 
-/// CIE94 by hand: in the order of `Cie94::ALL`, and with the samples exchanged. The chromas 9 and 4, whose
-/// geometric mean is 6, of one hue, and a quarter of a turn apart; a grey, beside which no chroma weighs;
-/// the largest chromas; the smallest beside the largest.
-fn cie94_by_hand(t: &mut Tally) {
+/// CIE94 worked out apart, in the order of `Cie94::ALL`, and with the samples exchanged: the chromas 9 and
+/// 4, whose geometric mean is 6, of one hue, and a quarter of a turn apart; a grey, beside which no chroma
+/// weighs; the largest chromas; the smallest beside the largest.
+fn cie94_cases(t: &mut Tally) {
     let plane = |a: i128, b: i128| lab(500_000, a, b);
     let (black, white) = (lab(0, -1_280_000, -1_280_000), lab(1_000_000, 1_280_000, 1_280_000));
     let rows = [
@@ -261,7 +261,7 @@ fn cie94_by_hand(t: &mut Tally) {
         t.same(("CIE94", s1, s2), Cie94::ALL.map(|kind| cie94(s1, s2, EVEN, kind)), there);
         t.same(("CIE94", s2, s1), Cie94::ALL.map(|kind| cie94(s2, s1, EVEN, kind)), back);
     }
-    t.report("CIE94 by hand, both ways round");
+    t.report("CIE94 worked out apart, both ways round");
 }
 
 fn table_one(t: &mut Tally) {
@@ -424,7 +424,7 @@ fn main() {
     refusals(&mut t);
     lines(&mut t);
     lab_texts(&mut t);
-    cie94_by_hand(&mut t);
+    cie94_cases(&mut t);
     table_one(&mut t);
     table_one_figures(&mut t);
     sines(&mut t);

@@ -60,9 +60,8 @@ row94 r = of GraphicArts WithStandard ∷ of Textiles WithStandard ∷ of Graphi
     of : Application → Comparison → ℕ
     of application comparison = cie94Of application comparison (weights 10000) (r .0) (r .1)
 
--- pair 1, both ways round: without a standard it is the same; chromas 9 and 4, whose root(C1 × C2) is 6, of one hue and a
--- quarter of a turn apart; a grey, beside which
--- no chroma weighs
+-- pair 1, both ways round: without a standard it is the same; the chromas 9 and 4, whose root(C1 × C2) is 6, of one hue and
+-- a quarter of a turn apart; a grey, beside which no chroma weighs
 unfoldable pub pairs94 : List (Sample × Sample)
 pairs94 =
     (first, second) ∷

@@ -1,8 +1,6 @@
--- The exchange of the samples. CIEDE2000 and CIE76 are the same from sample 2 to sample 1, for all samples and all weights;
--- of CIEDE2000's figures the signed
--- ones change their sign, those of one sample change places, and all others stay. CIE94 is the same without a standard, and
--- its parts change their sign;
--- with one it has no such law, its weights being those of sample 1's chroma.
+-- The exchange of the samples. CIEDE2000, CIE76 and CIE94 without a standard are the same from sample 2 to sample 1, for all
+-- samples and all weights. Of CIEDE2000's figures the signed ones change their sign, those of one sample change places, and
+-- all others stay; the parts of CIE94 change their sign. With a standard CIE94 has no such law: sample 1's chroma weighs.
 -- Assumes nothing.
 use mathlib.Core.Path.{_≡_, sym, ap, _∙_}
 use mathlib.Core.Bool.{or-comm}

@@ -14,7 +14,7 @@ use super::prepared::Prepared;
 use sample::FixedWeights;
 use signed::Int;
 
-// What is compared: it has its own constants in the weighting functions.
+// Whose constants the weighting functions take.
 pub enum Application {
     GraphicArts,
     Textiles,
