@@ -52,9 +52,7 @@ fn answer(millionths: i128) -> lq::Answer {
 fn compare(t: &mut Tally, r1: Reading, r2: Reading, k: [f32; 3], r: &mut Random, off: &mut Deviations) {
     let (s1, s2) = (calls::sample(r1).expect("accepted"), calls::sample(r2).expect("accepted"));
     let grid = calls::weights(k).expect("accepted");
-    let doubles = |x: [i128; 3]| x.map(|x| x as f64 / 10_000.0);
-    let (d1, d2) = (doubles([s1.l, s1.a, s1.b]), doubles([s2.l, s2.a, s2.b]));
-    let dk = doubles([grid.l, grid.c, grid.h]);
+    let [d1, d2, dk] = double::doubles(s1, s2, grid);
     let wanted = working::figures(s1, s2, grid);
     let (refusal, found) = lq::figures(r1, r2, k);
     t.same(("refusal of the figures", r1, r2, k), refusal, 0);

@@ -318,8 +318,7 @@ fn table_one_figures(t: &mut Tally) {
 
 /// How far CIEDE2000, and CIE94 in the order of `Cie94::ALL`, are from double precision.
 fn deviations(s1: Lab, s2: Lab, k: Weights) -> [f64; 5] {
-    let doubles = |x: [i128; 3]| x.map(|x| x as f64 / 10_000.0);
-    let (d1, d2, dk) = (doubles([s1.l, s1.a, s1.b]), doubles([s2.l, s2.a, s2.b]), doubles([k.l, k.c, k.h]));
+    let [d1, d2, dk] = double::doubles(s1, s2, k);
     let off = |exact: f64, found: i128| (exact - calls::double(found)).abs();
     let of94 = |i: usize| off(double::cie94(d1, d2, dk, Cie94::ALL[i]), cie94(s1, s2, k, Cie94::ALL[i]));
     [off(double::ciede2000(d1, d2, dk), ciede2000(s1, s2, k)), of94(0), of94(1), of94(2), of94(3)]

@@ -1,7 +1,13 @@
 //! CIEDE2000 in double precision, from the equations of source 001 (2 to 22), and CIE94 from source
 //! 002; from nothing of the whole-number working.
 
-use crate::working::Cie94;
+use crate::working::{Cie94, Lab, Weights};
+
+/// A pair and its weights, in grid numbers, as the doubles that the functions below take.
+pub fn doubles(s1: Lab, s2: Lab, k: Weights) -> [[f64; 3]; 3] {
+    let of = |x: [i128; 3]| x.map(|x| x as f64 / 10_000.0);
+    [of([s1.l, s1.a, s1.b]), of([s2.l, s2.a, s2.b]), of([k.l, k.c, k.h])]
+}
 
 /// Hues this near to half a turn apart are taken as exactly so: arctangents of doubles are off by
 /// about 10^-13 degree, and the nearest hues of grid numbers that are not exactly opposite differ

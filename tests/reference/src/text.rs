@@ -65,7 +65,8 @@ fn answer(bytes: &[u8]) -> String {
         Ok((s1, s2)) => {
             let f = figures(s1, s2, EVEN);
             let (l, c, h, de00) = (f[FIGURES - 4], f[FIGURES - 3], f[FIGURES - 2], f[FIGURES - 1]);
-            [cie76(s1, s2), cie94(s1, s2, EVEN, Cie94 { textile: false, standard: true }), de00, l, c, h].map(shown).join(" ")
+            let de94 = cie94(s1, s2, EVEN, Cie94 { textile: false, standard: true });
+            [cie76(s1, s2), de94, de00, l, c, h].map(shown).join(" ")
         }
     }
 }
