@@ -8,9 +8,8 @@ use Rattle.isqrt.specs.Root.{rootOf}
 use Rattle.isqrt.proofs.RootLaws.{root-largest, root-le, root-of-square}
 use Rattle.sample.specs.Sample.{Sample}
 use Rattle.sample.specs.declared.FixedWeights.{FixedWeights}
-use Rattle.difference.specs.Parts.{partsOf, combined}
-use Rattle.difference.specs.Pair.{sampleChroma, plainOf, pairHueDifference, lightnessDifference, chromaDifference}
-use Rattle.difference.specs.Cie94.{chromaConstant, hueConstant, weightingChroma, weightingFunction, parts94Of, cie94Of}
+use Rattle.difference.specs.Pair.{sampleChroma}
+use Rattle.difference.specs.Cie94.{weightingChroma, parts94Of, cie94Of}
 use Rattle.difference.specs.declared.cie94.Application.{Application}
 use Rattle.difference.specs.declared.cie94.Comparison.the-variants.{WithStandard, WithoutStandard}
 
@@ -26,9 +25,10 @@ pub mean-chroma-between : (c1 c2 : ℕ) → c1 ≤ c2 → (c1 ≤ meanChroma c1 
 unfolding weightingChroma
 mean-chroma-between c1 c2 h = (root-largest _ c1 (mul-le-mul (le-refl c1) h), root-le _ c2 (mul-le-mul h (le-refl c2)))
 
-pub mean-chroma-same : (c : ℕ) → meanChroma c c ≡ c
+-- equal chromas: it is each of them, as with a standard
+pub mean-chroma-same : (c1 c2 : ℕ) → c1 ≡ c2 → meanChroma c1 c2 ≡ weightingChroma WithStandard c1 c2
 unfolding weightingChroma
-mean-chroma-same c = root-of-square c
+mean-chroma-same c1 c2 e = ap (λ (c : ℕ). rootOf (c1 * c)) (sym e) ∙ root-of-square c1
 
 pub mean-chroma-grey : (c : ℕ) → meanChroma c 0 ≡ 0
 unfolding weightingChroma
@@ -37,9 +37,5 @@ mean-chroma-grey c = ap rootOf (mul-zero c) ∙ root-of-square 0
 -- samples of equal chroma: a standard makes no difference
 pub cie94-equal-chroma : (application : Application) (w : FixedWeights) (s t : Sample) → sampleChroma s ≡ sampleChroma t
     → cie94Of application WithoutStandard w s t ≡ cie94Of application WithStandard w s t
-unfolding cie94Of parts94Of weightingChroma
-cie94-equal-chroma application w s t e =
-    ap (λ (c : ℕ). combined (partsOf w (lightnessDifference s t) (chromaDifference (plainOf s) (plainOf t))
-    (pairHueDifference s t (plainOf s) (plainOf t)) 1000000000 (weightingFunction (chromaConstant application) c)
-    (weightingFunction (hueConstant application) c)) 0)
-    (ap (λ (c : ℕ). rootOf (sampleChroma s * c)) (sym e) ∙ root-of-square (sampleChroma s))
+unfolding cie94Of parts94Of
+cie94-equal-chroma application w s t e = rw (mean-chroma-same (sampleChroma s) (sampleChroma t) e)
