@@ -26,7 +26,7 @@ below {n} {x} {y} h k = either (decLe y x)
 square-double : (s : ℕ) → (2 * s) * (2 * s) ≡ 4 * (s * s)
 square-double s = omega (arith, mul-assoc 2 s (2 * s), mul-comm s (2 * s), mul-assoc 2 s s)
 
-square-next : (x : ℕ) → (x + 1) * (x + 1) ≡ x * x + 2 * x + 1
+pub square-next : (x : ℕ) → (x + 1) * (x + 1) ≡ x * x + 2 * x + 1
 square-next x = omega (arith, add-mul x 1 (x + 1), mul-add x x 1)
 
 -- one more bit: the root of n from that of its quarter

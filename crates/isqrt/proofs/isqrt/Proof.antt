@@ -1,93 +1,30 @@
--- `isqrt::isqrt` meets its contract. The loop's invariant: the root lies between the bits found and these and 2 ^ left together.
--- The measure is the number of bits left. Assumes nothing.
-use mathlib.Core.Path.{_≡_, sym, ap, _∙_}
-use Prim.Native.Nat.{ℕ, zero, suc, _+_, _-_, _*_, _%_, _^_, _≤_, _<_}
-use native.Mathlib.Nat.{mul-le-mul, one-mul, two-pow-succ}
-use native.Mathlib.Omega.{arith}
-use lib.Dec.{lit<}
-use lib.Pow.{pow-pos, shl-exact}
+-- `isqrt::isqrt` meets its contract. Assumes nothing.
+use mathlib.Core.Path.{_≡_, sym, _∙_}
+use Prim.Native.Nat.{ℕ, _+_, _*_, _≤_, _<_}
+use borrow.Author.Needs.{needs}
+use borrow.Author.Tests.{eqb-true}
 use Rattle.isqrt.specs.Root.{rootOf}
-use Rattle.isqrt.proofs.RootLaws.{root-unique}
+use Rattle.isqrt.proofs.RootLaws.{root-square-le, root-lt-next}
 use Rattle.isqrt.proofs.isqrt.Statement.{statement}
 use Rattle.isqrt.proofs.isqrt.Tie as tie
 
--- the root of n is at least root, and below root + 2 ^ left
-record Between (n root left : ℕ) : Type 0 where
-  low : root * root ≤ n
-  high : n < (root + 2 ^ left) * (root + 2 ^ left)
-  small : root + 2 ^ left ≤ 2 ^ 32
-  few : left ≤ 32
+-- the root, and what it is
+is-largest : (n r : ℕ) → r ≡ rootOf n → (r ≡ rootOf n) × ((r * r ≤ n) × (n < (r + 1) * (r + 1)))
+is-largest n r e = (e, (rw e (root-square-le n), rw e (root-lt-next n)))
 
--- `1 << k`, which the machine has as a product cut to 64 bits
-abbrev bit : ℕ → ℕ
-bit k = (1 * 2 ^ k) % 2 ^ 64
+returns : tie.Need-returns
+returns c = is-largest _ _ (eqb-true _ _ (sym (c .before .is-root .ensures) ∙ c .if1 .taken))
 
-bit-is : (k : ℕ) → k < 64 → bit k ≡ 2 ^ k
-bit-is k h = shl-exact {a = 1} 1 k 64 (lit< tt) (omega arith) ∙ one-mul (2 ^ k)
-
--- a turn of the loop
-module _ {n root left : ℕ} (h : Between n root left) (some : 0 < left) where
-  tried-bit : bit (left - 1) ≡ 2 ^ (left - 1)
-  tried-bit = bit-is (left - 1) (omega arith)
-
-  half : 2 ^ (left - 1) + 2 ^ (left - 1) ≡ 2 ^ left
-  half = sym (two-pow-succ (left - 1)) ∙ ap (λ (k : ℕ). 2 ^ k) (omega arith)
-
-  tried-small : root + bit (left - 1) ≤ 2 ^ 32 - 1
-  tried-small = omega (arith, tried-bit, half, pow-pos (left - 1))
-
-  taken : (root + bit (left - 1)) * (root + bit (left - 1)) ≤ n → Between n (root + bit (left - 1)) (left - 1)
-  taken t = record { low = t; high = rw both (h .high); small = rw both (h .small); few = omega arith }
-    where
-      both : root + bit (left - 1) + 2 ^ (left - 1) ≡ root + 2 ^ left
-      both = omega (arith, tried-bit, half)
-
-  left-out : n < (root + bit (left - 1)) * (root + bit (left - 1)) → Between n root (left - 1)
-  left-out t = record { low = h .low; high = rw (← tried-bit) t; small = omega (arith, tried-bit, tried-small); few = omega arith }
-
-found : {n root : ℕ} (left : ℕ) → Between n root left → left ≤ 0
-    → (root ≡ rootOf n) × ((root * root ≤ n) × (n < (root + 1) * (root + 1)))
-found zero h none = (sym (root-unique _ _ (h .low) (h .high)), (h .low, h .high))
-found (suc k) h none = absurd (omega arith)
-
-abbrev Inv-loop : tie.InvT-loop
-Inv-loop n root₀ left₀ root left = Between n root left
-
-abbrev μ-loop : tie.MeasureT-loop
-μ-loop n root₀ left₀ root left = left
-
-loop-holds : tie.Need-loop-holds Inv-loop μ-loop
-loop-holds c = record { low = omega arith; high = omega arith; small = omega arith; few = omega arith }
-
-add-tried : tie.Need-add-tried Inv-loop μ-loop
-add-tried c = omega (arith, tried-small (c .before .loop .inv) (omega arith))
-
-mul-if1 : tie.Need-mul-if1 Inv-loop μ-loop
-mul-if1 c = let t = tried-small (c .before .loop .inv) (omega arith) in omega (arith, mul-le-mul t t)
-
-loop-again : tie.Need-loop-again Inv-loop μ-loop
-loop-again c = taken (c .before .before .loop .inv) (omega arith) (omega arith)
-
-loop-again-2 : tie.Need-loop-again-2 Inv-loop μ-loop
-loop-again-2 c = left-out (c .before .before .loop .inv) (omega arith) (omega arith)
-
-returns : tie.Need-returns Inv-loop μ-loop
-returns c = found _ (c .before .loop .inv) (omega arith)
+returns-2 : tie.Need-returns-2
+returns-2 c = is-largest _ _ (search needs)
 
 pub isqrt-spec : {M : Type 1} → statement M
 isqrt-spec =
     tie.close
     (tie.spec
-    Inv-loop
-    μ-loop
-    loop-holds
-    (λ c. omega arith)
-    (λ c. omega arith)
-    (λ c. omega arith)
-    add-tried
-    mul-if1
-    (λ c. omega arith)
-    loop-again
-    (λ c. omega arith)
-    loop-again-2
-    returns)
+    (λ c κs. search needs)
+    (λ c κs. search needs)
+    returns
+    (λ c κs. search needs)
+    (λ c κs. search needs)
+    returns-2)
