@@ -16,16 +16,16 @@ build_alone() { # NAME
     rust "$1" "tests/checks/$1.rs"
 }
 
-# A check that calls no library of ours.
-build_check() { # NAME
-    rust "$1" "tests/checks/$1.rs" --extern reference
-}
-
-# A check that is linked with the library under test: WORDS say how to find it.
-build_linked() { # NAME WORDS..
+# A check that does not go through the C interface. WORDS, if any, say how to find what it calls.
+build_check() { # NAME WORDS..
     local name=$1
     shift
-    rust "$name" "tests/checks/$name.rs" --extern reference --extern interface "$@"
+    rust "$name" "tests/checks/$name.rs" --extern reference "$@"
+}
+
+# A check of the C interface: WORDS say how to find the library under test.
+build_linked() { # NAME WORDS..
+    build_check "$@" --extern interface
 }
 
 build_interface() {

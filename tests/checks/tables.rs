@@ -1,5 +1,6 @@
-//! Checks the tables in the code, entry by entry, against the series.
-//! Arguments: the source file with the sines, the source file with the bell.
+//! Checks the tables in the code, entry by entry, against the series, and the parabolas of the integer
+//! square root against the root: an error there would show in no answer, only in the time.
+//! Arguments: the source files with the sines, the bell and the parabolas.
 
 use reference::tables::{BELL, SINE};
 use reference::tally::Tally;
@@ -15,10 +16,34 @@ fn entries(file: &str, count: usize) -> Vec<i128> {
     words.map(|word| word.parse().unwrap_or_else(|_| panic!("{file}: '{word}' is not an entry"))).collect()
 }
 
+/// The first estimate of a root: for parts from 8 to 31 start + rise × t - bend × t² is
+/// 2^24 × √((part + t) / 32), at most 4 millionths off.
+fn parabolas(t: &mut Tally, file: &str) {
+    let source = std::fs::read_to_string(file).unwrap_or_else(|e| panic!("{file}: {e}"));
+    let mut part = 8;
+    for line in source.lines() {
+        let Some((number, figures)) = line.trim().split_once(" => Parabola(") else { continue };
+        let Ok(number) = number.parse::<u32>() else { continue };
+        let figures = figures.strip_suffix("),").expect("one parabola to a line");
+        let figures: Vec<f64> = figures.split(", ").map(|word| word.parse().expect("a figure")).collect();
+        let [start, rise, bend] = figures[..] else { panic!("{file}: part {number} has not three figures") };
+        t.same((file, "part"), number, part);
+        for step in 0..=1 << 16 {
+            let x = f64::from(step) / 65_536.0;
+            let root = (1 << 24) as f64 * ((f64::from(part) + x) / 32.0).sqrt();
+            let off = ((start + rise * x - bend * x * x) / root - 1.0).abs();
+            t.same((file, "part", part, "at", x, "off by", off), off <= 4e-6, true);
+        }
+        part += 1;
+    }
+    t.same((file, "end of the parts"), part, 32);
+    t.report(&format!("{file}, parabolas against the root"));
+}
+
 fn main() {
     let mut t = Tally::new("tables");
     let files: Vec<String> = std::env::args().skip(1).collect();
-    let [sines, bell] = &files[..] else { panic!("two source files are needed") };
+    let [sines, bell, root] = &files[..] else { panic!("three source files are needed") };
     for (file, series) in [(sines, &*SINE), (bell, &*BELL)] {
         let found = entries(file, series.len());
         t.same(("number of entries", file), found.len(), series.len());
@@ -27,5 +52,6 @@ fn main() {
         }
         t.report(&format!("{file} against the series"));
     }
+    parabolas(&mut t, root);
     t.end();
 }
