@@ -147,13 +147,9 @@ fn fixed_size(x: f32) -> u64
     let w = halves(x);
     let t = std::num::truncating_f64_to_u64(w);
     let q = t / 2;
-    if t % 2 == 0 {
-        return q;
-    }
-    if w == t as f64 {
-        return half(q);
-    }
-    q + 1
+    // found before it is asked whether it is wanted: nobody can foresee whether t is even
+    let from_a_half = if w == t as f64 { half(q) } else { q + 1 };
+    if t % 2 == 0 { q } else { from_a_half }
 }
 
 // x in whole numbers of 1/10,000.

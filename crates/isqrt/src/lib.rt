@@ -47,7 +47,7 @@ fn on_part(part: u64) -> Parabola
         29 => Parabola(15971435, 275347, 2314),
         30 => Parabola(16244471, 270721, 2201),
         31 => Parabola(16512992, 266320, 2097),
-        _ => Parabola(1, 0, 0), // n is 0, and so is the estimate
+        _ => Parabola(1, 0, 0), // n is 0
     }
 }
 
@@ -68,11 +68,14 @@ fn top_estimate(n: u64) -> u64 {
     (x + n / x) / 2
 }
 
-// The root of n, for a few numbers one more: n is moved up to the top of 64 bits, and what is near its
-// root back down. Nothing is promised: `isqrt` tests it, and tests/checks/roots.rs counts the misses.
+// The root of n, for a few numbers one more: n is moved up to the top of 64 bits, by an even count, and
+// what is near its root back down by half of it. Nothing is promised: `isqrt` tests it, and
+// tests/checks/roots.rs counts the misses. 0 is missed, for which the loop takes one round.
+// The zeros are those of n itself and not of n | 1: for a number that cannot be 0 the compiled count
+// would wait for the root before, and roots that could be worked out side by side would not be.
 pub fn estimate(n: u64) -> u64 {
-    let bits = root_bits(n);
-    top_estimate(n << (64 - 2 * bits)) >> (32 - bits)
+    let half = u64::leading_zeros(n) % 64 / 2;
+    top_estimate(n << (2 * half)) >> half
 }
 
 // Whether r is the root of n: the next square is 2r + 1 further on.

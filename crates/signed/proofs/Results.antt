@@ -1,9 +1,10 @@
 -- What each function's result is, for the proofs of the functions. Assumes nothing.
 use mathlib.Core.Path.{_≡_, refl, sym, ap, ap₂, _∙_}
-use mathlib.Core.Bool.{Bool, true, false, not, Bool·beq}
+use mathlib.Core.Bool.{Bool, true, false, not, _&&_, Bool·beq, true≢false}
 use Prim.Native.Nat.{ℕ, _+_, _-_, _*_, _/_, _≤_, _<_}
 use native.Mathlib.Nat.{le-refl, le-trans, le-max-left, le-max-right}
 use native.Mathlib.Omega.{arith}
+use borrow.Author.Tests.{lt-ltb, le-ltb}
 use lib.Dec.{ltb}
 use lib.IntN.{ℤ, pos, negℤ, _+ℤ_, _-ℤ_, _*ℤ_, negℤ-negℤ, negℤ-+ℤ, +ℤ-comm, +ℤ-negℤ-cancel}
 use lib.Signed.{ltZ, quotZ}
@@ -67,22 +68,44 @@ apart-up x y h =
           (omega arith) (le-max-right x y);
     }
 
+-- as a choice of two sizes
+pub chosen-down : (x y n : ℕ) → y ≤ x → n ≡ x - y → Apart x y (record { neg = ltb x y; n = n })
+chosen-down x y n h e = rw (le-ltb x y h, e) (apart-down x y h)
+
+pub chosen-up : (x y n : ℕ) → x < y → n ≡ y - x → Apart x y (record { neg = ltb x y; n = n })
+chosen-up x y n h e = rw (lt-ltb x y h, e) (apart-up x y h)
+
+-- the sign of a sum of numbers with the signs s and t, where e says that the first is the smaller
+abbrev sumSign : Bool → Bool → Bool → Bool
+sumSign s t e = not (Bool·beq s (not (Bool·beq s t) && e))
+
+signs-differ : (s t e : Bool) (m k n : ℕ) → not (Bool·beq s t) ≡ true → withSign e n ≡ pos m -ℤ pos k
+    → withSign (sumSign s t e) n ≡ withSign s m +ℤ withSign t k
+signs-differ false true false m k n d h = h
+signs-differ false true true m k n d h = h
+signs-differ true false false m k n d h = ap negℤ h ∙ neg-sub (pos m) (pos k) ∙ +ℤ-comm (pos k) (negℤ (pos m))
+signs-differ true false true m k n d h =
+    sign-not true n ∙ ap negℤ h ∙ neg-sub (pos m) (pos k) ∙ +ℤ-comm (pos k) (negℤ (pos m))
+signs-differ false false e m k n d h = absurd (true≢false (sym d))
+signs-differ true true e m k n d h = absurd (true≢false (sym d))
+
+signs-agree : (s t e : Bool) (m k : ℕ) → not (Bool·beq s t) ≡ false → withSign (sumSign s t e) (m + k) ≡ withSign s m +ℤ withSign t k
+signs-agree false false e m k d = refl
+signs-agree true true e m k d = negℤ-+ℤ (pos m) (pos k)
+signs-agree false true e m k d = absurd (true≢false d)
+signs-agree true false e m k d = absurd (true≢false d)
+
 module _ (a b : Int) where
-  pub sum-naturals : a .neg ≡ false → b .neg ≡ false → Within (int a +ℤ int b) (a .n + b .n) (record { neg = false; n = a .n + b .n })
+  pub sum-differ : (d : Int) (n : ℕ) → Apart (a .n) (b .n) d → not (Bool·beq (a .neg) (b .neg)) ≡ true → n ≡ d .n
+      → Within (int a +ℤ int b) (a .n + b .n) (record { neg = sumSign (a .neg) (b .neg) (d .neg); n = n })
   unfolding int
-  sum-naturals p q = record { is = sym (ap₂ _+ℤ_ (int-false a p) (int-false b q)); size = le-refl _ }
+  sum-differ d n h e f =
+      rw f (record { is = signs-differ (a .neg) (b .neg) (d .neg) (a .n) (b .n) (d .n) e (h .is); size = h .size })
 
-  pub sum-negatives : a .neg ≡ true → b .neg ≡ true → Within (int a +ℤ int b) (a .n + b .n) (record { neg = true; n = a .n + b .n })
+  pub sum-agree : (t : Bool) (n : ℕ) → not (Bool·beq (a .neg) (b .neg)) ≡ false → n ≡ a .n + b .n
+      → Within (int a +ℤ int b) (a .n + b .n) (record { neg = sumSign (a .neg) (b .neg) t; n = n })
   unfolding int
-  sum-negatives p q =
-      record { is = negℤ-+ℤ (pos (a .n)) (pos (b .n)) ∙ sym (ap₂ _+ℤ_ (int-true a p) (int-true b q)); size = le-refl _ }
-
-  pub sum-down : (r : Int) → a .neg ≡ false → b .neg ≡ true → Apart (a .n) (b .n) r → Within (int a +ℤ int b) (a .n + b .n) r
-  sum-down r p q h = record { is = h .is ∙ sym (ap₂ _+ℤ_ (int-false a p) (int-true b q)); size = h .size }
-
-  pub sum-up : (r : Int) → a .neg ≡ true → b .neg ≡ false → Apart (b .n) (a .n) r → Within (int a +ℤ int b) (a .n + b .n) r
-  sum-up r p q h =
-      record { is = h .is ∙ +ℤ-comm (pos (b .n)) (negℤ (pos (a .n))) ∙ sym (ap₂ _+ℤ_ (int-true a p) (int-false b q)); size = omega (arith, h .size) }
+  sum-agree t n e f = rw f (record { is = signs-agree (a .neg) (b .neg) t (a .n) (b .n) e; size = le-refl _ })
 
   -- ---- the order, of two numbers and of one and zero
 

@@ -1,11 +1,12 @@
 -- Laws of ℤ's sign and size, and of `int`. Assumes nothing.
-use mathlib.Core.Path.{_≡_, refl, sym, ap, _∙_}
+use mathlib.Core.Path.{_≡_, refl, sym, ap, _∙_, subst}
 use mathlib.Core.Bool.{Bool, true, false, cond}
 use Prim.Native.Nat.{ℕ, zero, suc, _+_, _-_, _*_, _/_, _≤_, _<_}
 use native.Mathlib.Nat.{le-refl, lt-irrefl, zero-div}
 use native.Mathlib.Omega.{arith}
-use lib.Dec.{ltb, leb·zero, leb·suc-zero, leb·suc-suc}
-use lib.IntN.{ℤ, pos, negsuc, negℤ, natAbs, _+ℤ_, _-ℤ_, _*ℤ_, negℤ-negℤ, negℤ-+ℤ, +ℤ-comm, *ℤ-comm, zero-*ℤ}
+use borrow.Author.Tests.{eqb-true}
+use lib.Dec.{ltb, eqb, leb·zero, leb·suc-zero, leb·suc-suc}
+use lib.IntN.{ℤ, pos, negsuc, negℤ, natAbs, _+ℤ_, _-ℤ_, _*ℤ_, negℤ-negℤ, negℤ-+ℤ, +ℤ-comm, +ℤ-idl, -ℤ-+ℤ-cancel, *ℤ-comm, zero-*ℤ}
 use lib.Signed.{ltZ, quotZ}
 use Rattle.signed.specs.declared.Int.{Int}
 use Rattle.signed.specs.Value.{withSign}
@@ -101,10 +102,25 @@ pub int-false : (a : Int) → a .neg ≡ false → int a ≡ pos (a .n)
 unfolding int
 int-false a h = ap (λ s. withSign s (a .n)) h
 
-sign-size : (s : Bool) (n : ℕ) → natAbs (withSign s n) ≡ n
+pub sign-size : (s : Bool) (n : ℕ) → natAbs (withSign s n) ≡ n
 sign-size false n = refl
 sign-size true n = natAbs-neg (pos n)
 
 pub int-size : (a : Int) → natAbs (int a) ≡ a .n
 unfolding int
 int-size a = sign-size (a .neg) (a .n)
+
+pub size-of : (x : Int) {k : ℕ} → natAbs (int x) ≤ k → x .n ≤ k
+size-of x {k} h = subst (λ (n : ℕ). n ≤ k) (int-size x) h
+
+-- ---- zero
+
+pub size-zero : (x : ℤ) → eqb (natAbs x) 0 ≡ true → x ≡ pos 0
+size-zero (pos n) e = ap pos (eqb-true n 0 e)
+size-zero (negsuc n) e = absurd (none n (eqb-true (suc n) 0 e))
+  where
+    none : (n : ℕ) → suc n ≡ 0 → ⊥
+    none n e = omega arith
+
+pub difference-zero : (x y : ℤ) → x -ℤ y ≡ pos 0 → x ≡ y
+difference-zero x y e = sym (-ℤ-+ℤ-cancel x y) ∙ ap (λ w. w +ℤ y) e ∙ +ℤ-idl y

@@ -1,6 +1,7 @@
 // Whole numbers with a sign: a sign and a size, of which each function says what it is in ℤ.
 // Sums and products of such numbers are proved as unsigned ones are, by the bounds of their sizes.
 ghost use mathlib.Core.Path.{_≡_};
+ghost use mathlib.Core.Bool.{cond};
 ghost use Prim.Native.Nat.{_+_, _*_, _/_, _^_, _<_};
 ghost use lib.Dec.{eqb};
 ghost use lib.IntN.{pos, negℤ, natAbs, _+ℤ_, _-ℤ_, _*ℤ_};
@@ -54,42 +55,32 @@ pub fn scaled(a: Int, k: u64) -> Int
     }
 }
 
-// x - y, which may be below 0.
+// x where t is true, else y: a choice of two values, for which no branch is needed.
+pub fn pick(t: bool, x: u64, y: u64) -> u64
+    ensures { λ r. ⌜ r ≡ cond t x y ⌝ }
+{
+    if t { x } else { y }
+}
+
+// x - y, which may be below 0. A choice of two values and no branch: signs are as good as random.
 pub fn natural_difference(x: u64, y: u64) -> Int
     ensures { λ r. ⌜ Apart x y r ⌝ }
 {
-    if y <= x {
-        return Int {
-            neg: false,
-            n: x - y,
-        };
-    }
-    Int {
-        neg: true,
-        n: y - x,
-    }
+    let n = if x < y { y - x } else { x - y };
+    Int { neg: x < y, n }
 }
 
-// a + b.
+// a + b, in the same way: where the signs differ, the sign is that of the larger.
 pub fn sum(a: Int, b: Int) -> Int
     requires { ⌜ a .n + b .n < 2 ^ 64 ⌝ }
     ensures { λ r. ⌜ Within (int a +ℤ int b) (a .n + b .n) r ⌝ }
 {
-    if a.neg {
-        if b.neg {
-            return Int {
-                neg: true,
-                n: a.n + b.n,
-            };
-        }
-        return natural_difference(b.n, a.n);
-    }
-    if b.neg {
-        return natural_difference(a.n, b.n);
-    }
+    let apart = natural_difference(a.n, b.n);
+    let differ = a.neg != b.neg;
+    let n = if differ { apart.n } else { a.n + b.n };
     Int {
-        neg: false,
-        n: a.n + b.n,
+        neg: a.neg != (differ & apart.neg),
+        n,
     }
 }
 

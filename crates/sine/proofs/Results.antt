@@ -5,7 +5,8 @@ use mathlib.Core.Bool.{true, false}
 use mathlib.Core.List.{List}
 use Prim.Native.Nat.{ℕ, _-_, _%_, _≤_, _<_}
 use native.Mathlib.Omega.{arith}
-use borrow.Author.Tests.{lt-ltb, le-ltb}
+use borrow.Author.Tests.{lt-ltb, le-ltb, lt-leb, le-leb}
+use lib.Dec.{leb}
 use lib.IntN.{pos, negℤ}
 use lib.ListN.{length, getD}
 use Rattle.signed.specs.Inner.{Within}
@@ -31,11 +32,11 @@ pub sine-first :
     (angle : ℕ) {n : ℕ} →
     angle % 360000000 < 180000000 →
     n ≡ sineHalf (angle % 360000000) →
-    Within (sineOf angle) 1000000000 (record { neg = false; n = n })
+    Within (sineOf angle) 1000000000 (record { neg = leb 180000000 (angle % 360000000); n = n })
 unfolding sineOf sineTurn
 sine-first angle h e =
     record {
-      is = int-false _ refl ∙ rw (lt-ltb _ _ h) (ap pos e);
+      is = int-false _ (lt-leb _ _ h) ∙ rw (lt-ltb _ _ h) (ap pos e);
       size = omega (arith, half-le (angle % 360000000));
     }
 
@@ -43,10 +44,10 @@ pub sine-second :
     (angle : ℕ) {n : ℕ} →
     180000000 ≤ angle % 360000000 →
     n ≡ sineHalf (angle % 360000000 - 180000000) →
-    Within (sineOf angle) 1000000000 (record { neg = true; n = n })
+    Within (sineOf angle) 1000000000 (record { neg = leb 180000000 (angle % 360000000); n = n })
 unfolding sineOf sineTurn
 sine-second angle h e =
     record {
-      is = int-true _ refl ∙ rw (le-ltb _ _ h) (ap (λ (m : ℕ). negℤ (pos m)) e);
+      is = int-true _ (le-leb _ _ h) ∙ rw (le-ltb _ _ h) (ap (λ (m : ℕ). negℤ (pos m)) e);
       size = omega (arith, half-le (angle % 360000000 - 180000000));
     }

@@ -979,11 +979,13 @@ fn half(t: &[u32; 901], angle: u64) -> u64
     requires { ⌜ angle ≤ 180000000 ⌝ }
     ensures { λ r. ⌜ r ≡ sineHalf angle ⌝ }
 {
-    if angle <= QUARTER_TURN {
-        quarter(t, angle)
+    // a choice of two values and no branch: which quadrant an angle lies in is as good as random
+    let acute = if angle <= QUARTER_TURN {
+        angle
     } else {
-        quarter(t, HALF_TURN - angle)
-    }
+        HALF_TURN - angle
+    };
+    quarter(t, acute)
 }
 
 // The sine of any angle.
@@ -992,16 +994,15 @@ pub fn sine(t: &[u32; 901], angle: u64) -> Int
     ensures { λ r. ⌜ Within (sineOf angle) 1000000000 r ⌝ }
 {
     let turn = angle % TURN;
-    if turn < HALF_TURN {
-        Int {
-            neg: false,
-            n: half(t, turn),
-        }
+    let past = if turn < HALF_TURN {
+        turn
     } else {
-        Int {
-            neg: true,
-            n: half(t, turn - HALF_TURN),
-        }
+        turn - HALF_TURN
+    };
+    let n = half(t, past);
+    Int {
+        neg: HALF_TURN <= turn,
+        n,
     }
 }
 

@@ -1,5 +1,6 @@
 -- `fixed_point::fixed_size` meets its contract. Assumes nothing.
 use mathlib.Core.Path.{_≡_, sym, _∙_, subst}
+use mathlib.Core.Logic.{⊎-elim}
 use Prim.Native.Nat.{ℕ, _*_, _/_, _<_}
 use native.Mathlib.Omega.{arith}
 use lib.Ieee.Positive.{num, den, den-pos}
@@ -20,27 +21,30 @@ cut c = c .truncating-f64-to-u64 .ensures ∙ cut-is _ _ _ (small _ (c .before .
 few : (c : tie.After-truncating-f64-to-u64) → c .truncating-f64-to-u64 .result < 2560001
 few c = subst (λ (n : ℕ). n < 2560001) (sym (cut c)) (cut-small _ _ (small _ (c .before .before .pre)))
 
-returns : tie.Need-returns
-returns c = size-even _ (c .before .before .before .pre) _ (cut (c .before)) (c .if1 .taken)
-
-int-to-float-if2 : tie.Need-int-to-float-if2
-int-to-float-if2 c = cast-asks _ (few (c .before .before))
+int-to-float-if1 : tie.Need-int-to-float-if1
+int-to-float-if1 c = cast-asks _ (few (c .before))
 
 half-requires : tie.Need-half-requires
-half-requires c κs = omega (arith, few (c .before .before .before))
+half-requires c κs = omega (arith, few (c .before .before))
+
+returns : tie.Need-returns
+returns c =
+    let at = c .before .before .before in
+    size-even _ (at .before .before .pre) _ (cut at) (c .if2 .taken)
 
 returns-2 : tie.Need-returns-2
 returns-2 c =
-    let at = c .before .before .before .before in
-    c .half .ensures
-    ∙ size-half _ (at .before .before .pre) _ (cut at) (c .before .before .before .if1 .left)
-    (equal-whole _ _ _ _ _ (at .before .halves .ensures) (whole-value _ (few at)) (c .before .if2 .taken))
-
-returns-3 : tie.Need-returns-3
-returns-3 c =
     let at = c .before .before .before in
-    size-above _ (at .before .before .pre) _ (cut at) (c .before .before .if1 .left)
-    (unequal-whole _ _ _ _ _ (den-pos (at .before .before .args .x)) (at .before .halves .ensures) (whole-value _ (few at)) (c .if2 .left))
+    ⊎-elim
+    (λ w.
+    w .2 ∙ w .1 .ensures
+    ∙ size-half _ (at .before .before .pre) _ (cut at) (c .if2 .left)
+    (equal-whole _ _ _ _ _ (at .before .halves .ensures) (whole-value _ (few at)) (w .0 .taken)))
+    (λ w.
+    w .1
+    ∙ size-above _ (at .before .before .pre) _ (cut at) (c .if2 .left)
+    (unequal-whole _ _ _ _ _ (den-pos (at .before .before .args .x)) (at .before .halves .ensures) (whole-value _ (few at)) (w .0 .left)))
+    (c .before .if1 .came)
 
 pub fixed-size-spec : {M : Type 1} → statement M
 fixed-size-spec =
@@ -48,9 +52,8 @@ fixed-size-spec =
     (tie.spec
     (λ c κs. search needs)
     truncating-f64-to-u64-requires
-    returns
-    int-to-float-if2
+    int-to-float-if1
     half-requires
-    returns-2
     (λ c. search needs)
-    returns-3)
+    returns
+    returns-2)

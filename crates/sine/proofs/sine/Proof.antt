@@ -1,15 +1,23 @@
 -- `sine::sine` meets its contract: each half turn is a law.
 -- Assumes nothing.
+use mathlib.Core.Path.{ap, _∙_}
+use mathlib.Core.Logic.{⊎-elim}
+use native.Mathlib.Omega.{arith}
+use Rattle.sine.specs.Sine.{sineHalf}
 use Rattle.sine.proofs.Results.{sine-first, sine-second}
 use borrow.Author.Needs.{needs}
 use Rattle.sine.proofs.sine.Statement.{statement}
 use Rattle.sine.proofs.sine.Tie as tie
 
-returns : tie.Need-returns
-returns c = sine-first _ (c .before .if1 .taken) (c .half .ensures)
+half-requires : tie.Need-half-requires
+half-requires c κs = (c .before .pre, ⊎-elim (λ w. omega arith) (λ w. omega arith) (c .if1 .came))
 
-returns-2 : tie.Need-returns-2
-returns-2 c = sine-second _ (c .before .if1 .left) (c .half2 .ensures)
+returns : tie.Need-returns
+returns c =
+    ⊎-elim
+    (λ w. sine-first _ (w .0 .taken) (c .half .ensures ∙ ap sineHalf (w .1)))
+    (λ w. sine-second _ (w .0 .left) (c .half .ensures ∙ ap sineHalf (w .1)))
+    (c .before .if1 .came)
 
 pub sine-spec : {M : Type 1} → statement M
-sine-spec = tie.close (tie.spec (λ c κs. search needs) (λ c κs. search needs) returns returns-2)
+sine-spec = tie.close (tie.spec half-requires returns)
