@@ -1,8 +1,8 @@
 -- What the search by halving goes by: the largest number that a test holds for, and that a test which fails for a tenth fails for every later one.
 -- Assumes nothing.
-use mathlib.Core.Path.{_≡_, refl, sym, subst}
+use mathlib.Core.Path.{_≡_, refl, sym, ap}
 use mathlib.Core.Bool.{Bool, true, false}
-use Prim.Native.Nat.{ℕ, zero, suc, _-_, _*_, _≤_, _<_, zero-le}
+use Prim.Native.Nat.{ℕ, zero, suc, _+_, _-_, _*_, _/_, _≤_, _<_, zero-le}
 use native.Mathlib.Nat.{mul-le-mul-left, mul-zero}
 use native.Mathlib.Decide.{le-ind}
 use native.Mathlib.Omega.{arith}
@@ -46,13 +46,34 @@ pub reached-le : (x y k : ℕ) {s c : ℕ} → reaches x y k ≡ true → s ≡ 
 unfolding reaches
 reached-le x y k {s} {c} h e f = leb-true (x * s) (y * c) (rw (e, f) h)
 
--- the search ends where both ends meet
-pub met : (p : ℕ → Bool) {lo hi : ℕ} → lo ≡ hi → p lo ≡ true → lo ≡ largest p hi
-met p {lo} e h = subst (λ (n : ℕ). lo ≡ largest p n) e (sym (largest-here p lo h))
+-- what lies past a tenth that is not reached is dropped
+pub cut :
+    (x y k m n : ℕ) → k ≤ m + 1 → m ≤ n → n ≤ 900 → reaches x y k ≡ false →
+    largest (reaches x y) n ≡ largest (reaches x y) m
+cut x y k m n u v w e =
+    largest-cut (reaches x y) m n v (λ i l h. reaches-falls x y k i (omega arith) (omega arith) e)
 
--- the upper half is dropped
-pub halved :
-    (x y mid hi : ℕ) → 0 < mid → mid ≤ hi → hi ≤ 900 → reaches x y mid ≡ false →
-    largest (reaches x y) hi ≡ largest (reaches x y) (mid - 1)
-halved x y mid hi h l u e =
-    largest-cut (reaches x y) (mid - 1) hi (omega arith) (λ k v w. reaches-falls x y mid k (omega arith) (omega arith) e)
+-- the search ends where one tenth is left
+pub met : (p : ℕ → Bool) {low width : ℕ} → width ≡ 0 → p low ≡ true → low ≡ largest p (low + width)
+met p {low} {width} e h =
+    let f : low + width ≡ low = omega arith in
+    rw f (sym (largest-here p low h))
+
+-- what is known of the half that is kept: its first tenth is reached, and it holds what the whole did
+pub record Kept (x y low width next : ℕ) : Type 0 where
+  pub within : next + width / 2 ≤ low + width
+  pub first : reaches x y next ≡ true
+  pub same : largest (reaches x y) (low + width) ≡ largest (reaches x y) (next + width / 2)
+
+module _ (x y low width : ℕ) {mid next : ℕ} (half : mid ≡ low + (width - width / 2)) (fits : low + width ≤ 899) where
+  pub upper : reaches x y mid ≡ true → next ≡ mid → Kept x y low width next
+  upper h e =
+      let f : low + width ≡ next + width / 2 = omega arith in
+      record { within = omega arith; first = rw e h; same = ap (largest (reaches x y)) f }
+
+  pub lower : reaches x y low ≡ true → reaches x y mid ≡ false → next ≡ low → Kept x y low width next
+  lower h g e = record {
+    within = omega arith;
+    first = rw e h;
+    same = cut x y mid (next + width / 2) (low + width) (omega arith) (omega arith) (omega arith) g;
+  }

@@ -8,7 +8,8 @@ use native.Mathlib.Nat.{le-refl, le-suc, le-trans, min-le-left, eq-or-lt-of-le}
 use native.Mathlib.Omega.{arith}
 use borrow.Author.Tests.{eq-eqb, eqb-true, eqb-false}
 use lib.Dec.{eqb}
-use lib.IntN.{ℤ, pos, negsuc, natAbs}
+use lib.IntN.{ℤ, pos, natAbs}
+use Rattle.signed.proofs.SignedLaws.{size-zero}
 use Rattle.hue.specs.Hue.{grey, quadrantOf, turnedX, turnedY, largest, reaches, tenthOf, restOf, angleOf, hueIn, hueOf}
 use Rattle.hue.proofs.Quadrants.{le-four, grey-four}
 use Rattle.hue.proofs.Halving.{reaches-first}
@@ -54,13 +55,6 @@ quadrant-le a b = le-four a b
 -- 4 exactly where a = b = 0
 pub quadrant-grey : (a b : ℤ) → grey a b ≡ eqb (quadrantOf a b) 4
 quadrant-grey a b = grey-four a b
-
-size-zero : (x : ℤ) → eqb (natAbs x) 0 ≡ true → x ≡ pos 0
-size-zero (pos n) e = ap pos (eqb-true n 0 e)
-size-zero (negsuc n) e = absurd (none n (eqb-true (suc n) 0 e))
-  where
-    none : (n : ℕ) → suc n ≡ 0 → ⊥
-    none n e = omega arith
 
 pub grey-zero : (a b : ℤ) → grey a b ≡ true → (a ≡ pos 0) × (b ≡ pos 0)
 unfolding grey

@@ -1,5 +1,6 @@
 -- Laws for callers, and examples.
 pub mod HueLaws
+pub mod QuadrantSigns
 mod Quadrants
 mod Halving
 mod Examples

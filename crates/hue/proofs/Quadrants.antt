@@ -1,6 +1,6 @@
 -- The quadrant by the signs of a and b: pa that a is above 0, na that it is below, pb and nb the same of b.
 -- Assumes nothing.
-use mathlib.Core.Path.{_≡_, refl, sym}
+use mathlib.Core.Path.{_≡_, refl, sym, _∙_}
 use mathlib.Core.Bool.{Bool, true, false, not, cond, _&&_, true≢false}
 use Prim.Native.Nat.{ℕ, zero, suc, _≤_, zero-le}
 use native.Mathlib.Omega.{arith}
@@ -39,10 +39,23 @@ above-not-below : (x : ℤ) → ltZ (pos 0) x ≡ true → ltZ x (pos 0) ≡ fal
 above-not-below (pos n) e = le-ltb n 0 zero-le
 above-not-below (negsuc n) e = sym e
 
--- a above 0, b below
-pub quadrant-three : (a b : ℤ) → ltZ (pos 0) a ≡ true → ltZ b (pos 0) ≡ true → 3 ≡ quadrantOf a b
+-- as the code chooses it
+abbrev pub chosen : Bool → Bool → Bool → Bool → ℕ
+chosen pa na pb nb = cond pa (cond nb 3 0) (cond pb 1 (cond na 2 (cond nb 3 4)))
+
+chosen-by : (pa na pb nb : Bool) → (pa ≡ true → na ≡ false) → chosen pa na pb nb ≡ quadrantBy pa na pb nb
 unfolding quadrantBy
-quadrant-three a b e f = quadrant-by a b true false _ true e (above-not-below a e) refl f
+chosen-by true na pb false h = refl
+chosen-by true true pb true h = absurd (true≢false (h refl))
+chosen-by true false pb true h = refl
+chosen-by false true true nb h = refl
+chosen-by false false true nb h = refl
+chosen-by false true false nb h = refl
+chosen-by false false false true h = refl
+chosen-by false false false false h = refl
+
+pub quadrant-chosen : (a b : ℤ) → chosen (ltZ (pos 0) a) (ltZ a (pos 0)) (ltZ (pos 0) b) (ltZ b (pos 0)) ≡ quadrantOf a b
+quadrant-chosen a b = chosen-by _ _ _ _ (above-not-below a) ∙ sym (quadrant-signs a b)
 
 zero-by : (x : ℤ) → eqb (natAbs x) 0 ≡ not (ltZ (pos 0) x) && not (ltZ x (pos 0))
 zero-by (pos zero) = refl

@@ -1,27 +1,23 @@
--- `hue::angle` meets its contract: the tenth is found from 0, which every point reaches, and the point reaches the tenth that is found.
+-- `hue::angle` meets its contract: the tenth that is found is one that the point reaches.
 -- Assumes nothing.
 use mathlib.Core.Path.{_≡_, sym, subst}
 use Prim.Native.Nat.{ℕ, _+_, _*_}
 use native.Mathlib.Omega.{arith}
-use Rattle.hue.specs.Hue.{largest, reaches, tenthOf, restOf, angleOf}
-use Rattle.hue.proofs.Halving.{reaches-first}
-use Rattle.hue.proofs.HueLaws.{Largest, largest-is, rest-le}
+use Rattle.hue.specs.Hue.{reaches, tenthOf, restOf, angleOf}
+use Rattle.hue.proofs.HueLaws.{Largest, tenth-is, rest-le}
 use borrow.Author.Needs.{needs}
 use Rattle.hue.proofs.angle.Statement.{statement}
 use Rattle.hue.proofs.angle.Tie as tie
 
 angle-of :
-    (x y chroma : ℕ) {k r : ℕ} → k ≡ largest (reaches x y) 899 → r ≡ restOf x y k chroma → angleOf x y chroma ≡ 100000 * k + r
-unfolding angleOf tenthOf
+    (x y chroma : ℕ) {k r : ℕ} → k ≡ tenthOf x y → r ≡ restOf x y k chroma → angleOf x y chroma ≡ 100000 * k + r
+unfolding angleOf
 angle-of x y chroma e f = cc
 
-found : (c : tie.After-tenth) → Largest (reaches (c .before .args .x) (c .before .args .y)) 899 (c .tenth .result)
+found : (c : tie.After-tenth-of) → Largest (reaches (c .before .args .x) (c .before .args .y)) 899 (c .tenth-of .result)
 found c =
     let s = c .before .args in
-    subst (Largest (reaches (s .x) (s .y)) 899) (sym (c .tenth .ensures)) (largest-is _ 899 (reaches-first (s .x) (s .y)))
-
-tenth-requires : tie.Need-tenth-requires
-tenth-requires c κs = (c .pre .0, ((omega arith, omega arith), ((omega arith, omega arith), reaches-first _ _)))
+    subst (Largest (reaches (s .x) (s .y)) 899) (sym (c .tenth-of .ensures)) (tenth-is (s .x) (s .y))
 
 mul-result-2 : tie.Need-mul-result-2
 mul-result-2 c = omega (arith, found c)
@@ -35,14 +31,14 @@ rest-requires c κs = (c .before .pre .0, (c .before .pre .1 .1 .0, (c .before .
 add-result-2 : tie.Need-add-result-2
 add-result-2 c =
     let s = c .before .before .args in
-    omega (arith, found (c .before), rest-le (s .x) (s .y) (c .before .tenth .result) (s .chroma))
+    omega (arith, found (c .before), rest-le (s .x) (s .y) (c .before .tenth-of .result) (s .chroma))
 
 returns : tie.Need-returns
 returns c =
     let s = c .before .before .args in
-    omega (arith, angle-of (s .x) (s .y) (s .chroma) (c .before .tenth .ensures) (c .rest .ensures))
+    omega (arith, angle-of (s .x) (s .y) (s .chroma) (c .before .tenth-of .ensures) (c .rest .ensures))
 
 pub angle-spec : {M : Type 1} → statement M
 angle-spec =
     tie.close
-    (tie.spec tenth-requires (λ c. search needs) mul-result-2 add-result rest-requires add-result-2 returns)
+    (tie.spec (λ c κs. search needs) (λ c. search needs) mul-result-2 add-result rest-requires add-result-2 returns)

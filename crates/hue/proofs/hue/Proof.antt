@@ -1,9 +1,10 @@
 -- `hue::hue` meets its contract: in the quadrants 0 and 2 the point turned is (|a|, |b|), in 1 and 3 (|b|, |a|), and where
 -- a or b is not 0 the chroma is not 0.
 -- Assumes nothing.
-use mathlib.Core.Path.{_≡_, sym, _∙_}
+use mathlib.Core.Path.{_≡_, refl, sym, _∙_}
 use mathlib.Core.Bool.{Bool, true, false, cond}
 use Prim.Native.Nat.{ℕ, zero, suc, _+_, _*_, _%_, _≤_, _<_}
+use native.Mathlib.Nat.{le-trans, le-of-eq}
 use native.Mathlib.Omega.{arith}
 use borrow.Author.Tests.{eq-eqb, ne-eqb}
 use lib.Dec.{eqb}
@@ -11,6 +12,7 @@ use lib.IntN.{ℤ}
 use Rattle.signed.specs.declared.Int.{Int}
 use Rattle.signed.specs.Inner.{int}
 use Rattle.signed.proofs.SignedLaws.{int-size}
+use Rattle.sine.proofs.SineLaws.{cond-le}
 use Rattle.hue.specs.Hue.{grey, quadrantOf, turnedX, turnedY, angleOf, hueIn, hueOf}
 use Rattle.hue.proofs.HueLaws.{quadrant-le, quadrant-grey, quadrant-of-none, hue-grey, hue-coloured}
 use borrow.Author.Needs.{needs}
@@ -48,23 +50,30 @@ returns c = sym (hue-grey _ _ _ (quadrant-grey _ _ ∙ eq-eqb _ _ (sym (c .befor
 
 angle-requires : tie.Need-angle-requires
 angle-requires c κs =
-    let s = c .before .before .before .pre in
-    (s .0, (asked (c .before) .0, (s .1 .0, (asked (c .before) .1, s .1 .1))))
-
-angle-requires-2 : tie.Need-angle-requires-2
-angle-requires-2 c κs =
-    let s = c .before .before .before .pre in
-    (s .0, (asked (c .before) .0, ((s .1 .0 .1, s .1 .0 .0), (asked (c .before) .1, s .1 .1))))
+    let q = c .before .before in
+    let s = q .before .before .pre in
+    let a = s .1 .0 .0 in
+    let b = s .1 .0 .1 in
+    let even : Bool = eqb (q .before .quadrant .result % 2) 0 in
+    let x = le-trans (le-of-eq (c .before .pick .ensures)) (cond-le even a b) in
+    let y = le-trans (le-of-eq (c .pick2 .ensures)) (cond-le even b a) in
+    (s .0, (asked q .0, ((x, y), (asked q .1, s .1 .1))))
 
 returns-2 : tie.Need-returns-2
-returns-2 c = hue-turned _ _ _ true (c .before .before .before .quadrant .ensures) (c .before .before .if1 .left)
-    (eq-eqb _ _ (c .before .if2 .taken)) (c .angle .ensures)
-
-returns-3 : tie.Need-returns-3
-returns-3 c = hue-turned _ _ _ false (c .before .before .before .quadrant .ensures) (c .before .before .if1 .left)
-    (ne-eqb _ _ (c .before .if2 .left)) (c .angle2 .ensures)
+returns-2 c =
+    let q = c .before .before .before in
+    let x = c .before .before .pick .ensures in
+    let y = c .before .pick2 .ensures in
+    hue-turned _ _ _ _ (q .before .quadrant .ensures) (q .if1 .left) refl
+    (c .angle .ensures ∙ (λ i. 90000000 * q .before .quadrant .result + angleOf (x i) (y i) (q .before .before .args .chroma)))
 
 pub hue-spec : {M : Type 1} → statement M
 hue-spec =
     tie.close
-    (tie.spec (λ c κs. search needs) returns angle-requires angle-requires-2 returns-2 returns-3)
+    (tie.spec
+    (λ c κs. search needs)
+    returns
+    (λ c κs. search needs)
+    (λ c κs. search needs)
+    angle-requires
+    returns-2)
