@@ -1,3 +1,4 @@
 pub mod Ranges
 pub mod GaussianLaws
+mod Neighbours
 pub mod Examples

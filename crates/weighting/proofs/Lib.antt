@@ -1,2 +1,3 @@
 pub mod WeightingLaws
+pub mod RotationBound
 mod Examples

@@ -3,13 +3,13 @@
 use mathlib.Core.Path.{_≡_, refl, sym, ap, _∙_, subst}
 use Prim.Native.Nat.{ℕ, suc, _+_, _-_, _*_, _/_, _≤_}
 use native.Mathlib.Nat.{le-refl, add-comm, mul-assoc, mul-left-comm, mul-le-mul, div-le-of-le-mul}
-use native.Mathlib.Decide.{decLe}
 use native.Mathlib.Omega.{arith}
 use lib.Dec.{lit≤}
 use lib.IntN.{ℤ, pos, negsuc, negℤ, natAbs, _+ℤ_, _-ℤ_, +ℤ-negℤ-cancel}
 use Rattle.isqrt.specs.Root.{rootOf}
 use Rattle.isqrt.proofs.RootLaws.{root-largest}
-use Rattle.signed.proofs.SignedLaws.{natAbs-neg, natAbs-mul, natAbs-quot, neg-sub}
+use Rattle.signed.proofs.SignedLaws.{natAbs-neg, natAbs-mul, natAbs-quot}
+use Rattle.signed.proofs.Squares.{apart-size}
 use Rattle.sine.specs.Sine.{sineOf, cosineOf}
 use Rattle.sine.proofs.SineLaws.{sine-size, cosine-size, sine-not-negative}
 use Rattle.gaussian.specs.Gaussian.{gaussianOf}
@@ -90,13 +90,7 @@ unfolding lightnessWeight lightnessOffset
 lightness-weight-comm l1 l2 = ap (λ n. lightnessWeightAt (natAbs (pos n -ℤ pos 1000000))) (add-comm l1 l2)
 
 apart-le : (x y e : ℕ) → x ≤ y + e → y ≤ x + e → natAbs (pos x -ℤ pos y) ≤ e
-apart-le x y e h k = by-order (decLe y x)
-  where
-    by-order : Dec (y ≤ x) → natAbs (pos x -ℤ pos y) ≤ e
-    by-order (yes l) = rw (sub-natural x y l) (omega arith)
-    by-order (no f) =
-        let l : x ≤ y = omega (arith, f) in
-        rw (← neg-sub (pos y) (pos x), natAbs-neg, sub-natural y x l) (omega arith)
+apart-le x y e h k = omega (arith, apart-size x y)
 
 offset-le : (l1 l2 : ℕ) → l1 ≤ 1000000 → l2 ≤ 1000000 → lightnessOffset l1 l2 ≤ 1000000
 unfolding lightnessOffset
@@ -136,6 +130,11 @@ pub hue-weight-le : (s t : ℕ) → s ≤ 4615105632 → t ≤ 1930000000 → hu
 unfolding hueWeight
 hue-weight-le s t h k =
     let part : 3 * s / 4 ≤ 3461329224 = omega arith in omega (arith, mul-le-mul part k)
+
+-- SH is at most SC
+pub hue-weight-below : (s t : ℕ) → t ≤ 1930000000 → hueWeight s t ≤ chromaWeight s
+unfolding hueWeight chromaWeight
+hue-weight-below s t h = omega (arith, mul-le-mul (le-refl (3 * s / 4)) h)
 
 -- ---- the rotation term
 

@@ -2,13 +2,13 @@
 // Angles are whole numbers of 10^-6 degree, lightness of 1/10,000, chroma of 10^-7, the results of 10^-9.
 use signed::Int;
 ghost use mathlib.Core.Path.{_≡_};
-ghost use Prim.Native.Nat.{_+_, _*_, _^_, _≤_, _<_};
+ghost use Prim.Native.Nat.{_+_, _*_, _/_, _^_, _≤_, _<_};
 ghost use lib.IntN.{pos, _+ℤ_, _-ℤ_};
 ghost use Rattle.signed.specs.Inner.{Within};
 ghost use Rattle.sine.specs.Inner.{SineTable};
 ghost use Rattle.sine.specs.Sine.{cosineOf};
-ghost use Rattle.gaussian.specs.Inner.{GaussianTable};
-ghost use Rattle.weighting.specs.Weighting.{termOf, hueTerm, lightnessWeight, chromaWeight, hueWeight, rotation};
+ghost use Rattle.weighting.specs.Weighting.{termOf, hueTerm, lightnessWeight, chromaWeight, hueWeight};
+ghost use Rattle.weighting.specs.Weighting.{hueDistance, rotationSine};
 
 // k hundredths of the cosine of an angle.
 fn cosine_term(sines: &[u32; 901], k: u64, angle: u64) -> Int
@@ -74,16 +74,21 @@ pub fn hue_weight(s: u64, t: u64) -> u64
     sine::ONE + 3 * s / 4 * t / sine::ONE
 }
 
-// The rotation term R, of the seventh-power ratio z and the mean hue; the published term is minus R.
-pub fn rotation_term(sines: &[u32; 901], gaussians: &[u32; 1201], z: u64, h: u64) -> u64
-    requires { ⌜ SineTable (now sines) ⌝ }
-    requires { ⌜ GaussianTable (now gaussians) ⌝ }
-    requires { ⌜ z ≤ 1000000000 ⌝ }
-    requires { ⌜ h < 720000000 ⌝ }
-    ensures { λ r. ⌜ r ≡ rotation z h ⌝ }
+// How far the mean hue h lies from 275 degrees, where the Gaussian is taken.
+pub fn hue_distance(h: u64) -> u64
+    ensures { λ r. ⌜ r ≡ hueDistance h ⌝ }
 {
-    let distance = signed::size(signed::natural_difference(h, 275000000));
-    let e = gaussian::gaussian(gaussians, distance);
+    signed::size(signed::natural_difference(h, 275000000))
+}
+
+// The rotation term R, of the seventh-power ratio z and the Gaussian e at the mean hue; the published
+// term is minus R.
+pub fn rotation_term(sines: &[u32; 901], e: u64, z: u64) -> u64
+    requires { ⌜ SineTable (now sines) ⌝ }
+    requires { ⌜ e ≤ 1000000000 ⌝ }
+    requires { ⌜ z ≤ 1000000000 ⌝ }
+    ensures { λ r. ⌜ r ≡ 2 * z * rotationSine e / 1000000000 ⌝ }
+{
     let k = signed::size(sine::sine(sines, 6 * e / 100));
     2 * z * k / sine::ONE
 }
