@@ -3,15 +3,16 @@
 use mathlib.Core.Path.{_≡_, refl, sym, ap, _∙_}
 use mathlib.Core.Bool.{Bool, true, false, cond}
 use Prim.Native.Nat.{ℕ, zero, suc, _+_, _-_, _*_, _/_, _≤_, _<_}
-use native.Mathlib.Nat.{le-refl, sub-le, zero-mul, mul-le-mul, mul-le-mul-left, div-le-of-le-mul}
+use native.Mathlib.Nat.{le-refl, lt-of-lt-of-le, sub-le, zero-mul, mul-le-mul, mul-le-mul-left, div-le-of-le-mul, le-div-iff-mul-le}
 use native.Mathlib.Omega.{arith}
-use lib.Dec.{leb, leb·suc-zero}
-use borrow.Author.Tests.{lt-ltb}
+use lib.Dec.{leb, leb·suc-zero, lit<}
+use borrow.Author.Tests.{lt-ltb, lt-leb}
 use lib.IntN.{ℤ, pos, negsuc, negℤ, natAbs, _*ℤ_}
 use lib.Signed.{ltZ, quotZ}
 use Rattle.isqrt.specs.Root.{rootOf}
 use Rattle.isqrt.proofs.RootLaws.{root-below, root-largest, root-le, root-square-plus}
 use Rattle.signed.specs.declared.Int.{Int}
+use Rattle.signed.specs.Value.{withSign}
 use Rattle.signed.specs.Inner.{int}
 use Rattle.signed.proofs.SignedLaws.{int-size, natAbs-mul, natAbs-quot, neg-mul, neg-quot, lt-neg-pos, lt-pos-neg}
 use Rattle.chroma.specs.Chroma.{sumOfSquares, chromaOf, powerOf, hypotenuseOf, ratioOf, primedA, inTenMillionths, primedChroma}
@@ -85,14 +86,34 @@ ratio-le s = by-test (leb (2 * s) 1000000000) (powerOf (2 * s)) (powerOf (100000
     by-test true p q = div-le-of-le-mul (hypotenuseOf p) (omega (arith, hypotenuse-ge p))
     by-test false p q = div-le-of-le-mul (hypotenuseOf q) (omega (arith, hypotenuse-ge-one q))
 
+hypotenuse-le : (p : ℕ) → p ≤ 1000000000 → hypotenuseOf p ≤ 1414213563
+unfolding hypotenuseOf
+hypotenuse-le p h = root-le (1000000000000000000 + p * p) 1414213563 (omega (arith, mul-le-mul h h))
+
+-- the ratio of a chroma sum above 50 is at least 0.707
+pub ratio-large : (s : ℕ) → 1000000000 < 2 * s → 707106780 ≤ ratioOf s
+unfolding ratioOf
+ratio-large s h =
+    let p : ℕ = powerOf (1000000000000000000 / (2 * s)) in
+    let l : 707106780 * hypotenuseOf p ≤ 1000000000000000000 = omega (arith, hypotenuse-le p (power-le _ (inverse-le h))) in
+    rw (lt-leb (2 * s) 1000000000 h) (le-div-iff-mul-le (lt-of-lt-of-le (lit< tt) (hypotenuse-ge-one p)) .1 l)
+
 -- ---- step 3: sizes
 
 pub primed-a-size : (a : ℤ) (z : ℕ) → natAbs (primedA a z) ≡ natAbs a * (3000000000 - z) / 2000000
 unfolding primedA
 primed-a-size a z = natAbs-quot (a *ℤ pos (3000000000 - z)) 2000000 ∙ ap (λ n. n / 2000000) (natAbs-mul a (pos (3000000000 - z)))
 
+-- a is lengthened by a half at most, and by less where the ratio is large
+pub primed-a-most : (a : ℤ) (z : ℕ) → natAbs (primedA a z) ≤ 1500 * natAbs a
+primed-a-most a z = omega (arith, primed-a-size a z, mul-le-mul-left (natAbs a) (sub-le 3000000000 z))
+
+pub primed-a-most-large : (a : ℤ) (z : ℕ) → 707106780 ≤ z → natAbs (primedA a z) ≤ 1148 * natAbs a
+primed-a-most-large a z h =
+    let k : 3000000000 - z ≤ 2292893220 = omega arith in omega (arith, primed-a-size a z, mul-le-mul-left (natAbs a) k)
+
 pub primed-a-le : (a : ℤ) (z : ℕ) → natAbs a ≤ 1280000 → natAbs (primedA a z) ≤ 1920000000
-primed-a-le a z h = omega (arith, primed-a-size a z, mul-le-mul h (sub-le 3000000000 z))
+primed-a-le a z h = omega (arith, primed-a-most a z)
 
 -- so a' is 0 only where a is
 pub primed-a-ge : (a : ℤ) (z : ℕ) → z ≤ 1000000000 → 1000 * natAbs a ≤ natAbs (primedA a z)
@@ -139,6 +160,17 @@ primed-a-zero z = rw (zero-mul (3000000000 - z))
 pub in-ten-millionths-zero : inTenMillionths (pos 0) ≡ pos 0
 unfolding inTenMillionths
 in-ten-millionths-zero = refl
+
+-- a' and b' have the signs of a and b
+pub primed-a-signed : (s : Bool) (n z : ℕ) → primedA (withSign s n) z ≡ withSign s (n * (3000000000 - z) / 2000000)
+unfolding primedA
+primed-a-signed false n z = refl
+primed-a-signed true n z = primed-a-neg (pos n) z
+
+pub in-ten-millionths-signed : (s : Bool) (n : ℕ) → inTenMillionths (withSign s n) ≡ withSign s (n * 1000)
+unfolding inTenMillionths
+in-ten-millionths-signed false n = refl
+in-ten-millionths-signed true n = in-ten-millionths-neg (pos n)
 
 record SignKept (f : ℤ → ℤ) : Type 0 where
   negative : (x : ℤ) → ltZ (f x) (pos 0) ≡ ltZ x (pos 0)

@@ -1,3 +1,4 @@
--- `ChromaLaws` is for callers.
+-- `ChromaLaws` and `Spread` are for callers.
 pub mod ChromaLaws
+pub mod Spread
 mod Examples

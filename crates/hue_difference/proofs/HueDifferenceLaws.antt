@@ -7,18 +7,18 @@ use mathlib.Core.Logic.{_↔_, _⊎_, inl, inr, ⊎-elim}
 use Prim.Native.Nat.{ℕ, _+_, _-_, _/_, _≤_, _<_, zero-le}
 use native.Mathlib.Nat.{le-refl, add-comm, mul-comm}
 use native.Mathlib.Omega.{arith}
-use borrow.Author.Tests.{le-ltb, eq-eqb, ltb-true}
+use borrow.Author.Tests.{le-ltb, eq-eqb, eqb-true, ltb-true}
 use lib.Dec.{ltb, eqb}
 use lib.IntN.{ℤ, pos, negℤ, natAbs, _+ℤ_, _*ℤ_, +ℤ-invr, *ℤ-comm, *ℤ-zero, zero-*ℤ}
 use lib.Signed.{ltZ}
 use Rattle.signed.specs.Value.{withSign}
-use Rattle.signed.proofs.SignedLaws.{natAbs-neg, neg-sub, lt-neg, lt-neg-pos}
+use Rattle.signed.proofs.SignedLaws.{natAbs-neg, neg-sub, lt-neg, lt-neg-pos, sign-size, size-zero}
 use Rattle.hue.specs.Hue.{grey, quadrantOf}
 use Rattle.hue.proofs.HueLaws.{grey-zero}
 use Rattle.hue_difference.specs.Inner.{Primed}
 use Rattle.hue_difference.specs.HueDifference.{crossOf, laterIn, secondLater, firstLater, farOf, oppositeOf, noHueOf}
 use Rattle.hue_difference.specs.HueDifference.{hueNegative, dotOf, hueSize, hueDifferenceOf, meanHueOf}
-use Rattle.hue_difference.proofs.Signs.{opposite-parts, hue-parts, eqb-comm, ltb-other, sign-other, size-zero, sign-not, either-of}
+use Rattle.hue_difference.proofs.Signs.{opposite-parts, hue-parts, aligned-parts, eqb-comm, ltb-other, sign-other, sign-not, either-of}
 use Rattle.hue_difference.proofs.Sizes as sizes
 
 -- ---- H by its size and its sign
@@ -45,6 +45,10 @@ hue-difference-none negative size = refl
 pub hue-difference-some : (negative : Bool) (size : ℕ) → hueDifferenceOf false negative size ≡ withSign negative size
 unfolding hueDifferenceOf
 hue-difference-some negative size = refl
+
+pub hue-difference-size : (negative : Bool) (size : ℕ) → natAbs (hueDifferenceOf false negative size) ≡ size
+unfolding hueDifferenceOf
+hue-difference-size negative size = sign-size negative size
 
 -- and below 0 exactly where `negative` says so
 pub hue-difference-sign : (negative : Bool) (size : ℕ) → 0 < size → ltZ (hueDifferenceOf false negative size) (pos 0) ≡ negative
@@ -102,6 +106,14 @@ module _ (a1 b1 a2 b2 : ℤ) where
 
   pub hue-coloured : noHueOf a1 b1 a2 b2 ≡ false → (grey a1 b1 ≡ false) × (grey a2 b2 ≡ false)
   hue-coloured e = (hued e .0, hued e .1)
+
+  -- where step 7 makes H 0 and neither sample is grey, the hues are the same: X = 0, and the quadrant is one
+  pub hue-same : noHueOf a1 b1 a2 b2 ≡ true → grey a1 b1 ≡ false → grey a2 b2 ≡ false →
+      (crossOf a1 b1 a2 b2 ≡ pos 0) × (quadrantOf a1 b1 ≡ quadrantOf a2 b2)
+  unfolding noHueOf oppositeOf
+  hue-same e u v =
+      let both = aligned-parts (grey a1 b1) (grey a2 b2) _ _ e u v in
+      (size-zero (crossOf a1 b1 a2 b2) (both .0), eqb-true (quadrantOf a1 b1) (quadrantOf a2 b2) (both .1))
 
   -- ---- the exchange of the samples: X, the order and the sign of H turn round, and all else stays
 

@@ -1,5 +1,6 @@
--- `HueDifferenceLaws` is for callers; `Signs` and `Sizes` are for it and for the proofs of this crate's functions.
+-- `HueDifferenceLaws` and `Chord` are for callers; `Signs` and `Sizes` are for it and for the proofs of this crate's functions.
 pub mod HueDifferenceLaws
+pub mod Chord
 mod Signs
 mod Sizes
 pub mod Examples

@@ -32,6 +32,15 @@ hue-parts false true z o e = absurd (true≢false e)
 hue-parts false false false o e = (refl, refl, λ h. refl)
 hue-parts false false true o e = (refl, refl, λ h. absurd (true≢false (sym (ap not h) ∙ e)))
 
+-- what is left of `noHueOf` where neither sample is grey
+pub aligned-parts : (g1 g2 z q : Bool) → (g1 || g2 || (z && not (not g1 && not g2 && z && not q))) ≡ true → g1 ≡ false → g2 ≡ false
+    → (z ≡ true) × (q ≡ true)
+aligned-parts true g2 z q e u v = absurd (true≢false u)
+aligned-parts false true z q e u v = absurd (true≢false v)
+aligned-parts false false true true e u v = (refl, refl)
+aligned-parts false false true false e u v = absurd (false≢true e)
+aligned-parts false false false q e u v = absurd (false≢true e)
+
 pub eqb-comm : (m n : ℕ) → eqb m n ≡ eqb n m
 eqb-comm m n = by-test (eqb m n) refl
   where
@@ -52,13 +61,6 @@ pub sign-other : (x : ℤ) → eqb (natAbs x) 0 ≡ false → ltZ (pos 0) x ≡ 
 sign-other (pos zero) e = absurd (true≢false e)
 sign-other (pos (suc n)) e = rw (lt-ltb 0 (suc n) (omega arith), le-ltb (suc n) 0 zero-le)
 sign-other (negsuc n) e = refl
-
-pub size-zero : (x : ℤ) → eqb (natAbs x) 0 ≡ true → x ≡ pos 0
-size-zero (pos n) e = ap pos (eqb-true n 0 e)
-size-zero (negsuc n) e = absurd (none n (eqb-true (suc n) 0 e))
-  where
-    none : (n : ℕ) → suc n ≡ 0 → ⊥
-    none n e = omega arith
 
 pub sign-not : (s : Bool) (n : ℕ) → withSign (not s) n ≡ negℤ (withSign s n)
 sign-not false n = refl

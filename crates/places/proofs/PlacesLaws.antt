@@ -12,7 +12,7 @@ use lib.IntN.{ℤ}
 use lib.Signed.{ltZ, leZ}
 use Rattle.places.specs.Places.{keep, hits, matchesOf, tally, every, rising, Among}
 use Rattle.places.specs.Inner.{Split}
-use Rattle.places.proofs.Order.{fails, le-refl-Z, le-trans-Z, lt-not}
+use Rattle.places.proofs.Order.{le-refl-Z, le-trans-Z, lt-not}
 
 -- ---- truth values
 
@@ -215,9 +215,6 @@ module _ (f : ℕ → Bool) where
   pub every-more : (n : ℕ) → every f n ≡ true → f n ≡ true → every f (n + 1) ≡ true
   every-more n h e = every-next n ∙ ap₂ _&&_ h e
 
-  pub every-fails : (n k : ℕ) → k < n → f k ≡ false → every f n ≡ false
-  every-fails n k l e = fails (every f n) (λ h. true≢false (sym (every-at n k h l) ∙ e))
-
 -- ---- a column that does not fall
 
 module _ (g : ℕ → ℤ) where
@@ -232,10 +229,6 @@ module _ (g : ℕ → ℤ) where
       (λ q. ap (λ k. leZ (g k) (g j)) q ∙ le-refl-Z (g j))
       (λ h. every-at (λ k. leZ (g k) (g j)) j i (every-at over n j e m) h)
       (eq-or-lt-of-le l)
-
-  pub rising-one : rising g 1 ≡ true
-  unfolding rising every
-  rising-one = refl
 
   -- neighbours suffice: what holds no less than the place before it holds no less than any before it
   pub rising-more : (i : ℕ) → rising g (i + 1) ≡ true → leZ (g i) (g (i + 1)) ≡ true → rising g (i + 1 + 1) ≡ true
@@ -253,14 +246,6 @@ module _ (g : ℕ → ℤ) where
       let before : rising g (n + 1) ≡ true = rw (add-one n) (rising-neighbours (suc n) (λ i l. h i (omega arith))) in
       let e : n + 1 + 1 ≡ suc (suc n) = omega arith in
       rw e at (rising-more n before (h n (omega arith)))
-
-  pub rising-fewer : (m n : ℕ) → m ≤ n → rising g n ≡ true → rising g m ≡ true
-  unfolding rising
-  rising-fewer m n l e = every-of over m (λ k h. every-at over n k e (omega arith))
-
-  pub rising-fails : (n i : ℕ) → i + 1 < n → leZ (g i) (g (i + 1)) ≡ false → rising g n ≡ false
-  rising-fails n i l e =
-      fails (rising g n) (λ h. true≢false (sym (rising-at n i (i + 1) h (omega arith) l) ∙ e))
 
 -- ---- a window between two bounds: a and b split a column at lo and hi
 

@@ -11,7 +11,7 @@ use lib.ListN.{length, getD, set, take, drop}
 use lib.Signed.{ltZ, leZ}
 use Rattle.places.specs.Places.{rising}
 use Rattle.places.specs.Inner.{Split}
-use Rattle.places.proofs.Order.{le-trans-Z, le-lt-Z, not-lt-le, lt-not}
+use Rattle.places.proofs.Order.{le-trans-Z, le-lt-Z, not-lt-le}
 use Rattle.places.proofs.PlacesLaws.{rising-at}
 
 -- ---- binary search
@@ -56,15 +56,6 @@ module _ (g : ℕ → ℤ) (n : ℕ) (bound : ℤ) where
       above = λ k i j.
           le-trans-Z bound (g mid) (g k) (not-lt-le (g mid) bound (rw e at h)) (rising-at g n mid k up i j);
     }
-
--- ---- the order of two neighbours v and w, of which y and x are read
-
-module _ {x y v w : ℤ} (e : y ≡ w) (f : x ≡ v) where
-  pub step-rises : ltZ y x ≡ false → leZ v w ≡ true
-  step-rises h = not-lt-le w v (rw (e, f) at h)
-
-  pub step-falls : ltZ y x ≡ true → leZ v w ≡ false
-  step-falls h = lt-not w v (rw (e, f) at h)
 
 -- ---- a copy
 

@@ -40,9 +40,10 @@ abbrev pub at : List ℤ → ℕ → ℤ
 at xs k = getD xs k (pos 0)
 
 -- the list that holds g at the places below n
-unfoldable pub columnOf : (ℕ → ℤ) → ℕ → List ℤ
-columnOf g zero = []
-columnOf g (suc n) = columnOf g n ++ (g n ∷ [])
+module _ {A : Type 0} where
+  unfoldable pub columnOf : (ℕ → A) → ℕ → List A
+  columnOf g zero = []
+  columnOf g (suc n) = columnOf g n ++ (g n ∷ [])
 
 -- for all i < j < n, g holds no more at i than at j
 unfoldable pub rising : (ℕ → ℤ) → ℕ → Bool

@@ -1,6 +1,6 @@
-// What a search of a deck needs that does not depend on colour: the entries of a lane and their
-// order, the first place whose value reaches a bound, and the copy of the found places. A lane is a
-// slice, of which every stride-th number counts.
+// What a search of a deck needs that does not depend on colour: the entries of a lane, the first
+// place whose value reaches a bound, and the copy of the found places. A lane is a slice, of which
+// every stride-th number counts.
 ghost use mathlib.Core.Path.{_≡_};
 ghost use mathlib.Core.Bool.{true};
 ghost use mathlib.Core.List.{_++_};
@@ -35,21 +35,6 @@ pub fn first_at_least(lane: &[i32], stride: usize, n: usize, bound: i32) -> usiz
         }
     }
     lo
-}
-
-// Whether no value of a lane's n is below an earlier one; neighbours suffice.
-pub fn rises(lane: &[i32], stride: usize, n: usize) -> bool
-    requires { ⌜ Spans (now lane) stride n ⌝ }
-    ensures { λ r. ⌜ r ≡ rising (laneAt (now (lane .entry)) stride) n ⌝ }
-{
-    let mut i = 0;
-    while i + 1 < n {
-        if entry(lane, stride, i + 1) < entry(lane, stride, i) {
-            return false;
-        }
-        i += 1;
-    }
-    true
 }
 
 // Copies the first n of the found places to the front of the caller's list.

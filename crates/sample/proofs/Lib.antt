@@ -1,2 +1,3 @@
 pub mod SampleLaws
+mod Limits
 pub mod RefusalLaws

@@ -1,14 +1,16 @@
--- What it says of a colour that it is not refused. Assumes nothing.
+-- What it says of a colour that it is not refused, and of a sample that it is within the limits. Assumes nothing.
 use mathlib.Core.Path.{_≡_, refl}
 use mathlib.Core.Bool.{Bool, true, false, _||_, cond, true≢false}
-use Prim.Native.Nat.{ℕ}
+use Prim.Native.Nat.{ℕ, _≤_}
 use native.Mathlib.Omega.{arith}
 use lib.Dec.{ltb}
 use lib.IntN.{ℤ, pos, negsuc, natAbs}
 use lib.Signed.{ltZ}
 use borrow.Author.Tests.{ltb-false}
 use Rattle.sample.specs.Sample.{Colour, colourRefusal, colourSample}
-use Rattle.sample.specs.Inner.{SampleIn}
+use Rattle.sample.specs.Inner.{labOf, SampleIn}
+use Rattle.sample.specs.declared.Lab.{Lab}
+use Rattle.signed.proofs.SignedLaws.{size-of}
 
 -- none of the four tests holds where neither refusal is given
 record Passed (p q r s : Bool) : Type 0 where
@@ -42,3 +44,16 @@ accepted-lightness c e = natural (c .l) (tests c e .negative)
     natural : (z : ℤ) → ltZ z (pos 0) ≡ false → z ≡ pos (natAbs z)
     natural (pos n) h = refl
     natural (negsuc n) h = absurd (true≢false h)
+
+-- the sizes of the fields of a sample within the limits
+pub lab-l : (s : Lab) → SampleIn (labOf s) → s .l ≤ 1000000
+unfolding labOf
+lab-l s h = h .l
+
+pub lab-a : (s : Lab) → SampleIn (labOf s) → s .a .n ≤ 1280000
+unfolding labOf
+lab-a s h = size-of (s .a) (h .a)
+
+pub lab-b : (s : Lab) → SampleIn (labOf s) → s .b .n ≤ 1280000
+unfolding labOf
+lab-b s h = size-of (s .b) (h .b)

@@ -1,7 +1,7 @@
 -- What the code's structs stand for, and the limits as the bounds that inner functions ask for.
 use mathlib.Core.Path.{_≡_}
 use Prim.Native.Nat.{ℕ, _≤_}
-use lib.IntN.{natAbs}
+use lib.IntN.{ℤ, natAbs}
 use Rattle.signed.specs.Inner.{int}
 use Rattle.sample.specs.Sample.{Sample, Colour}
 use Rattle.sample.specs.declared.Lab.{Lab}
@@ -10,6 +10,10 @@ use Rattle.sample.specs.declared.FixedWeights.{FixedWeights}
 
 unfoldable pub labOf : Lab → Sample
 labOf s = record { l = s .l; a = int (s .a); b = int (s .b) }
+
+-- the colour of three machine integers
+abbrev pub colour : ℤ → ℤ → ℤ → Colour
+colour l a b = record { l = l; a = a; b = b }
 
 abbrev pub colourOf : FixedColour → Colour
 colourOf c = record { l = int (c .l); a = int (c .a); b = int (c .b) }

@@ -1,9 +1,11 @@
 // Samples, weights and colours in whole numbers of 1/10,000: their limits, and the order of refusals.
 // No floats: what reads floats, decks or text comes here with whole numbers.
 ghost use mathlib.Core.Path.{_≡_};
+ghost use mathlib.Core.Bool.{not};
+ghost use lib.Dec.{eqb};
 ghost use Rattle.sample.specs.Sample.{lightnessOut, opponentOut, colourRefusal, colourSample};
 ghost use Rattle.sample.specs.Refusals.{firstOf};
-ghost use Rattle.sample.specs.Inner.{colourOf, AcceptedSample};
+ghost use Rattle.sample.specs.Inner.{colour, colourOf, AcceptedSample};
 ghost use Rattle.signed.specs.Inner.{int};
 use signed::Int;
 
@@ -48,7 +50,29 @@ fn opponent_outside(x: Int) -> bool
     OPPONENT_MOST < signed::size(x)
 }
 
-// Refusal 2 or 3 of a colour, or 0: the one test of a swatch and of a colour of the text.
+// Whether a lightness is from 0 to 100.
+fn lightness_within(l: i32) -> bool
+    ensures { λ r. ⌜ r ≡ not (lightnessOut l) ⌝ }
+{
+    (0 <= l) & (l <= LIGHTNESS_MOST as i32)
+}
+
+// Whether a or b is from -128 to 128.
+fn opponent_within(x: i32) -> bool
+    ensures { λ r. ⌜ r ≡ not (opponentOut x) ⌝ }
+{
+    let most = OPPONENT_MOST as i32;
+    (-most <= x) & (x <= most)
+}
+
+// Whether a colour of machine integers is within the limits: the same test with no branch.
+pub fn within_limits(l: i32, a: i32, b: i32) -> bool
+    ensures { λ r. ⌜ r ≡ eqb (colourRefusal (colour l a b)) 0 ⌝ }
+{
+    lightness_within(l) & (opponent_within(a) & opponent_within(b))
+}
+
+// Refusal 2 or 3 of a colour, or 0.
 pub fn colour_refusal(c: FixedColour) -> u8
     ensures { λ r. ⌜ r ≡ colourRefusal (colourOf c) ⌝ }
 {
