@@ -1,6 +1,6 @@
 mod Sizes
 mod Pairs
-mod Points
+pub mod Points
 -- What holds of the three differences, for all samples: theorems for readers and callers.
 pub mod WeightingChroma
 pub mod Symmetry

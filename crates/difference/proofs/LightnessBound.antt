@@ -4,8 +4,7 @@
 -- Assumes nothing.
 use mathlib.Core.Path.{_≡_, refl, sym, ap, _∙_}
 use Prim.Native.Nat.{ℕ, suc, _+_, _-_, _*_, _/_, _≤_, _<_}
-use native.Mathlib.Nat.{le-trans, le-of-eq, lt-of-not-le, not-le-of-lt, mul-le-mul, mul-le-mul-left, lt-div-mul-add, le-dest}
-use native.Mathlib.Decide.{decLe}
+use native.Mathlib.Nat.{le-trans, le-of-eq, lt-of-not-le, not-le-of-lt, mul-le-mul, mul-le-mul-left, lt-div-mul-add}
 use native.Mathlib.Omega.{arith}
 use lib.IntN.{ℤ, pos, negsuc, natAbs, _-ℤ_, _*ℤ_}
 use lib.Signed.{quotZ}
@@ -13,6 +12,7 @@ use Rattle.isqrt.proofs.RootLaws.{root-largest}
 use Rattle.signed.specs.Inner.{int}
 use Rattle.signed.proofs.SignedLaws.{natAbs-mul, natAbs-quot}
 use Rattle.signed.proofs.Results.{apart-down}
+use Rattle.signed.proofs.Squares.{product-le}
 use Rattle.sample.specs.Sample.{Sample}
 use Rattle.sample.specs.Inner.{SampleIn, WeightsIn}
 use Rattle.sample.specs.declared.FixedWeights.{FixedWeights}
@@ -24,17 +24,6 @@ use Rattle.difference.specs.Pair.{termsOf, lightnessDifference}
 use Rattle.difference.specs.Ciede2000.{terms00Of, parts00Of, figuresFrom, figuresOf, ciede2000Of}
 
 -- ---- what is under the root
-
--- 2 x y is at most x² + y²
-rising : (x y : ℕ) → x ≤ y → 2 * (x * y) ≤ x * x + y * y
-rising x y h = let d = le-dest h in rw (← d .1) (omega arith)
-
-product-le : (x y : ℕ) → 2 * (x * y) ≤ x * x + y * y
-product-le x y = by-order (decLe x y)
-  where
-    by-order : Dec (x ≤ y) → 2 * (x * y) ≤ x * x + y * y
-    by-order (yes h) = rising x y h
-    by-order (no f) = omega (arith, rising y x (omega (arith, f)))
 
 -- z is a natural number that is at most e from s
 record Near (s e : ℕ) (z : ℤ) : Type 0 where
@@ -59,11 +48,13 @@ turn-le c h r k =
     let twice : natAbs h * r / 1000000000 ≤ 2 * natAbs h = omega (arith, mul-le-mul-left (natAbs h) k) in
     omega (arith, turn-size c h r, mul-le-mul-left (natAbs c) twice)
 
--- what is under the root is the natural number `value`: at least l², and at most l² + (|c| + |h|)²
+-- what is under the root is the natural number `value`: at least l², at least the three squares less |c| × (|h| × R / 10^9), and at most
+-- l² + (|c| + |h|)²
 pub record UnderRoot (p : Parts) (r : ℕ) : Type 0 where
   pub value : ℕ
   pub is : sumOf p r ≡ pos value
   pub least : squared (p .l) ≤ value
+  pub turned : squared (p .l) + squared (p .c) + squared (p .h) ≤ value + natAbs (p .c) * (natAbs (p .h) * r / 1000000000)
   pub most : value ≤ squared (p .l) + (natAbs (p .c) + natAbs (p .h)) * (natAbs (p .c) + natAbs (p .h))
 
 -- l² + c² + h² - c × (h × R / 10^9) is not negative, and not less than l², for all parts and an R of at most 2 × 10^9
@@ -79,6 +70,7 @@ sum-not-negative p r k =
       value = n .value;
       is = n .is;
       least = omega (arith, n .low);
+      turned = le-trans (n .low) (le-of-eq (ap (λ (e : ℕ). n .value + e) (turn-size (p .c) (p .h) r)));
       most = omega (arith, n .high);
     }
 

@@ -12,6 +12,7 @@ use Rattle.hue.proofs.HueLaws.{quadrant-grey}
 use Rattle.hue_difference.specs.HueDifference.{noHueOf, hueSize, hueDifferenceOf, meanHueOf}
 use Rattle.hue_difference.specs.Inner.{Primed, SideIs}
 use Rattle.hue_difference.specs.declared.Side.{Side}
+use Rattle.sample.specs.Sample.{Sample}
 use Rattle.sample.specs.declared.FixedWeights.{FixedWeights}
 use Rattle.chroma.specs.Chroma.{ratioOf}
 use Rattle.chroma.proofs.ChromaLaws.{ratio-le}
@@ -19,12 +20,15 @@ use Rattle.weighting.specs.Weighting.{hueTerm}
 use Rattle.weighting.proofs.WeightingLaws.{lightness-weight-ge, lightness-weight-le, chroma-weight-ge, chroma-weight-le}
 use Rattle.weighting.proofs.WeightingLaws.{hue-weight-ge, hue-weight-le, hue-term-le, rotation-le}
 use Rattle.difference.specs.Parts.{partsOf, combined}
-use Rattle.difference.specs.Pair.{Point, pairRatio, pairFar, pairHueDifference, pairMeanHue, pointHue, termsOf}
+use Rattle.difference.specs.Pair.{Point, pairRatio, primedOf, pairFar, pairHueDifference, pairMeanHue, pointHue, termsOf}
 use Rattle.difference.specs.Pair.{lightnessDifference, chromaDifference}
-use Rattle.difference.specs.Ciede2000.{figuresFrom, terms00Of, parts00Of}
+use Rattle.difference.specs.Ciede2000.{figuresFrom, terms00Of, parts00Of, figuresOf, ciede2000Of}
 use Rattle.difference.specs.Inner.{preparedSample, pointOf, signedParts, intermediateFigures, Ready, CoordinatesIn, Coloured, HueFigures}
+use Rattle.difference.specs.Inner.{IsPoints, IsParts, IsFinished, IsFigures, Millionths}
 use Rattle.difference.specs.declared.ciede2000.Terms.{Terms}
 use Rattle.difference.specs.declared.ciede2000.Hues.{Hues}
+use Rattle.difference.specs.declared.ciede2000.Points.{Points}
+use Rattle.difference.specs.declared.ciede2000.Finished.{Finished}
 use Rattle.difference.specs.declared.parts.SignedParts.{SignedParts}
 use Rattle.difference.specs.declared.prepared.Prepared.{Prepared}
 use Rattle.difference.specs.declared.prepared.Coordinates.{Coordinates}
@@ -88,31 +92,82 @@ terms-in l1 l2 sum mean p h k s =
     })
 
 -- ---- the figures from the results of the calls
-pub intermediates-are : (w : FixedWeights) (s t : Prepared) (p q : Coordinates) {z : ℕ} {m : Hues} {e : Terms} (dl dc : Int)
-    (parts : SignedParts) {r : ℕ} → Ready s → Ready t
-    → z ≡ pairRatio (preparedSample s) (preparedSample t) → HueFigures (preparedSample s) (preparedSample t) (pointOf p) (pointOf q) m
+
+-- steps 9 to 12
+pub finished-are : (w : FixedWeights) (s t : Prepared) (p q : Coordinates) {m : Hues} {e : Terms} (dl dc : Int)
+    (parts : SignedParts) {r : ℕ} → HueFigures (preparedSample s) (preparedSample t) (pointOf p) (pointOf q) m
     → e ≡ termsOf (s .l) (t .l) (p .chroma + q .chroma) (m .mean) → int dl ≡ pos (t .l) -ℤ pos (s .l) → int dc ≡ pos (q .chroma) -ℤ pos (p .chroma)
-    → signedParts parts ≡ partsOf w (int dl) (int dc) (int (m .difference)) (e .sl) (e .sc) (e .sh) → r ≡ combined (signedParts parts) (e .r)
-    → intermediateFigures (record { c1 = s .chroma; p1 = p; c2 = t .chroma; p2 = q; z = z; hues = m; terms = e; parts = parts; difference = r })
-    ≡ figuresFrom w (preparedSample s) (preparedSample t) (pointOf p) (pointOf q)
-unfolding intermediateFigures figuresFrom terms00Of parts00Of lightnessDifference chromaDifference preparedSample pointOf
-intermediates-are w s t p q dl dc parts u v z-is h e-is dl-is dc-is parts-is r-is =
+    → IsParts (partsOf w (int dl) (int dc) (int (m .difference)) (e .sl) (e .sc) (e .sh)) parts → Millionths (combined (signedParts parts) (e .r)) r
+    → IsFinished (figuresFrom w (preparedSample s) (preparedSample t) (pointOf p) (pointOf q)) (record { terms = e; parts = parts; difference = r })
+unfolding figuresFrom terms00Of parts00Of lightnessDifference chromaDifference preparedSample pointOf
+finished-are w s t p q dl dc parts h e-is dl-is dc-is parts-is r-is =
     let terms : _ ≡ termsOf (s .l) (t .l) (p .chroma + q .chroma)
     (pairMeanHue (preparedSample s) (preparedSample t) (pointOf p) (pointOf q)) = e-is ∙ ap
     (λ (n : ℕ). termsOf (s .l) (t .l) (p .chroma + q .chroma) n) (h .mean) in
-    let parts-are = parts-is ∙ (λ i. partsOf w (dl-is i) (dc-is i) (h .difference i) (terms i .sl) (terms i .sc) (terms i .sh)) in
-    λ i. record {
-      c1 = u .chroma i;
-      p1 = pointOf p;
-      h1 = h .h1 i;
-      c2 = v .chroma i;
-      p2 = pointOf q;
-      h2 = h .h2 i;
-      z = z-is i;
-      far = h .far i;
-      hueDifference = h .difference i;
-      mean = h .mean i;
-      terms = terms i;
-      parts = parts-are i;
-      difference = (r-is ∙ (λ j. combined (parts-are j) (terms j .r))) i;
+    let parts-are = parts-is .is ∙ (λ i. partsOf w (dl-is i) (dc-is i) (h .difference i) (terms i .sl) (terms i .sc) (terms i .sh)) in
+    record {
+      terms = terms;
+      parts = parts-are;
+      difference = r-is .is ∙ (λ j. combined (parts-are j) (terms j .r));
+      parts-in = parts-is .small;
+      small = r-is .small;
     }
+
+-- so of the points that step 3 gives
+pub finished-of : (w : FixedWeights) (s t : Sample) (x : Points) (r : Finished) → IsPoints s t x
+    → IsFinished (figuresFrom w s t (pointOf (x .p)) (pointOf (x .q))) r → IsFinished (figuresOf w s t) r
+unfolding figuresOf
+finished-of w s t x r h f =
+    subst (λ (q : Point). IsFinished (figuresFrom w s t (primedOf (pairRatio s t) s) q) r) (h .q .is)
+    (subst (λ (p : Point). IsFinished (figuresFrom w s t p (pointOf (x .q))) r) (h .p .is) f)
+
+-- every figure
+pub figures-are : (w : FixedWeights) (s t : Prepared) (x : Points) (m : Hues) (r : Finished) → Ready s → Ready t
+    → IsPoints (preparedSample s) (preparedSample t) x → HueFigures (preparedSample s) (preparedSample t) (pointOf (x .p)) (pointOf (x .q)) m
+    → IsFinished (figuresOf w (preparedSample s) (preparedSample t)) r
+    → IsFigures (figuresOf w (preparedSample s) (preparedSample t))
+    (record {
+      c1 = s .chroma;
+      p1 = x .p;
+      c2 = t .chroma;
+      p2 = x .q;
+      z = x .z;
+      hues = m;
+      terms = r .terms;
+      parts = r .parts;
+      difference = r .difference;
+    })
+unfolding intermediateFigures figuresOf figuresFrom
+figures-are w s t x m r u v x-is h f =
+    let one = preparedSample s in
+    let two = preparedSample t in
+    let p = x-is .p .is in
+    let q = x-is .q .is in
+    record {
+      is = λ i. record {
+        c1 = u .chroma i;
+        p1 = p i;
+        h1 = (h .h1 ∙ ap pointHue p) i;
+        c2 = v .chroma i;
+        p2 = q i;
+        h2 = (h .h2 ∙ ap pointHue q) i;
+        z = x-is .z i;
+        far = h .far i;
+        hueDifference = (h .difference ∙ (λ j. pairHueDifference one two (p j) (q j))) i;
+        mean = (h .mean ∙ (λ j. pairMeanHue one two (p j) (q j))) i;
+        terms = f .terms i;
+        parts = f .parts i;
+        difference = f .difference i;
+      };
+      p1 = x-is .p .coloured .bounded;
+      p2 = x-is .q .coloured .bounded;
+      hues = h .difference-size;
+      parts = f .parts-in;
+      difference = f .small;
+    }
+
+-- the difference alone, in millionths
+pub millionths-are : (w : FixedWeights) (s t : Sample) (r : Finished) → IsFinished (figuresOf w s t) r
+    → Millionths (ciede2000Of w s t) (r .difference)
+unfolding ciede2000Of
+millionths-are w s t r f = record { is = f .difference; small = f .small }

@@ -11,8 +11,6 @@ use borrow.Author.Tests.{eqb-false}
 use Rattle.signed.specs.Inner.{int, Within}
 use Rattle.signed.specs.declared.Int.{Int}
 use Rattle.signed.proofs.SignedLaws.{int-size}
-use Rattle.sample.specs.Inner.{labOf, SampleIn}
-use Rattle.sample.specs.declared.Lab.{Lab}
 use Rattle.hue.specs.Hue.{grey}
 use Rattle.chroma.specs.Chroma.{chromaOf, primedA, inTenMillionths, primedChroma}
 use Rattle.chroma.proofs.ChromaLaws.{chroma-le, primed-a-ge, primed-a-le, in-ten-millionths-size, in-ten-millionths-le}
@@ -20,7 +18,6 @@ use Rattle.chroma.proofs.ChromaLaws.{primed-chroma-le, primed-chroma-ge-a, prim
 use Rattle.difference.specs.Pair.{sampleChroma, primedOf, plainOf}
 use Rattle.difference.specs.Inner.{preparedSample, pointOf, Ready, IsPoint}
 use Rattle.difference.specs.declared.prepared.Prepared.{Prepared}
-use Rattle.difference.proofs.Sizes.{size-of}
 
 -- a sample that is not grey has an a or a b
 has-colour : (x y : ℕ) → (eqb x 0 && eqb y 0) ≡ false → (1 ≤ x) ⊎ (1 ≤ y)
@@ -70,18 +67,6 @@ chroma-is s r = r .chroma
 
 pub chroma-in : (s : Prepared) → Ready s → s .chroma ≤ 1810193359
 chroma-in s r = le-trans (le-of-eq (chroma-is s r)) (chroma-le _ _ (a-in s r) (b-in s r))
-
-pub lab-l : (s : Lab) → SampleIn (labOf s) → s .l ≤ 1000000
-unfolding labOf
-lab-l s h = h .l
-
-pub lab-a : (s : Lab) → SampleIn (labOf s) → s .a .n ≤ 1280000
-unfolding labOf
-lab-a s h = size-of (s .a) (h .a)
-
-pub lab-b : (s : Lab) → SampleIn (labOf s) → s .b .n ≤ 1280000
-unfolding labOf
-lab-b s h = size-of (s .b) (h .b)
 
 -- ---- a sample's points
 -- the size of an Int from what it is

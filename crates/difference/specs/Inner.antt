@@ -9,12 +9,15 @@ use Rattle.sample.specs.Inner.{SampleIn}
 use Rattle.hue.specs.Hue.{grey, quadrantOf}
 use Rattle.hue_difference.specs.Inner.{Primed}
 use Rattle.difference.specs.Parts.{Parts, squared}
-use Rattle.difference.specs.Pair.{Point, sampleChroma, pointHue, pairFar, pairHueDifference, pairMeanHue}
+use Rattle.difference.specs.Pair.{Point, sampleChroma, pairRatio, primedOf, pointHue, pairFar, pairHueDifference}
+use Rattle.difference.specs.Pair.{pairMeanHue}
 use Rattle.difference.specs.Ciede2000.{Figures}
 use Rattle.difference.specs.declared.prepared.Prepared.{Prepared}
 use Rattle.difference.specs.declared.prepared.Coordinates.{Coordinates}
 use Rattle.difference.specs.declared.parts.SignedParts.{SignedParts}
 use Rattle.difference.specs.declared.ciede2000.Hues.{Hues}
+use Rattle.difference.specs.declared.ciede2000.Points.{Points}
+use Rattle.difference.specs.declared.ciede2000.Finished.{Finished}
 use Rattle.difference.specs.declared.ciede2000.Intermediates.{Intermediates}
 
 unfoldable pub preparedSample : Prepared → Sample
@@ -59,6 +62,12 @@ pub record HueFigures (s t : Sample) (x y : Point) (r : Hues) : Type 0 where
   pub difference-size : r .difference .n ≤ 4615105632
   pub mean : r .mean ≡ pairMeanHue s t x y
   pub mean-size : r .mean < 720000000
+
+-- steps 2 and 3 of the samples s and t
+pub record IsPoints (s t : Sample) (x : Points) : Type 0 where
+  pub z : x .z ≡ pairRatio s t
+  pub p : IsPoint s (primedOf (pairRatio s t) s) (x .p)
+  pub q : IsPoint t (primedOf (pairRatio s t) t) (x .q)
 
 -- the sizes that the parts of an accepted pair can have
 pub record SignedPartsIn (p : SignedParts) : Type 0 where
@@ -108,6 +117,14 @@ intermediateFigures r =
       parts = signedParts (r .parts);
       difference = r .difference;
     }
+
+-- r is steps 9 to 12 of the working f
+pub record IsFinished (f : Figures) (r : Finished) : Type 0 where
+  pub terms : r .terms ≡ f .terms
+  pub parts : signedParts (r .parts) ≡ f .parts
+  pub difference : r .difference ≡ f .difference
+  pub parts-in : SignedPartsIn (r .parts)
+  pub small : r .difference ≤ 1400000000
 
 -- r is what the working of f says, with the sizes that its signed numbers can have
 pub record IsFigures (f : Figures) (r : Intermediates) : Type 0 where

@@ -8,8 +8,8 @@ use Rattle.sample.specs.Inner.{labOf}
 use Rattle.difference.specs.Parts.{squared}
 use Rattle.difference.specs.Pair.{lightnessDifference}
 use Rattle.difference.specs.Cie76.{cie76Of}
-use Rattle.difference.proofs.Sizes.{square-le}
-use Rattle.difference.proofs.Points.{lab-l, lab-a, lab-b}
+use Rattle.signed.proofs.Squares.{square-le}
+use Rattle.sample.proofs.SampleLaws.{lab-l, lab-a, lab-b}
 use borrow.Author.Needs.{needs}
 use Rattle.difference.proofs.cie76.cie76.Statement.{statement}
 use Rattle.difference.proofs.cie76.cie76.Tie as tie

@@ -1,5 +1,5 @@
 -- `difference::cie94::hue_difference94` meets its contract. Assumes nothing.
-use Rattle.difference.proofs.Sizes.{size-of}
+use Rattle.signed.proofs.SignedLaws.{size-of}
 use Rattle.difference.proofs.Points.{a-in, b-in}
 use Rattle.difference.proofs.Pairs.{both-coloured, pair-hue-difference-is}
 use borrow.Author.Needs.{needs}

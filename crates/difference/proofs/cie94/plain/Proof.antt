@@ -1,5 +1,5 @@
 -- `difference::cie94::plain` meets its contract. Assumes nothing.
-use Rattle.difference.proofs.Sizes.{size-of}
+use Rattle.signed.proofs.SignedLaws.{size-of}
 use Rattle.difference.proofs.Points.{a-in, b-in, point-plain}
 use Rattle.difference.proofs.cie94.plain.Statement.{statement}
 use Rattle.difference.proofs.cie94.plain.Tie as tie

@@ -8,7 +8,7 @@ use Rattle.hue.proofs.HueLaws.{hue-lt}
 use Rattle.hue_difference.proofs.HueDifferenceLaws.{mean-hue-lt-twice}
 use Rattle.difference.specs.Pair.{pointHue, pairFar}
 use Rattle.difference.specs.Inner.{preparedSample, pointOf}
-use Rattle.difference.proofs.Sizes.{size-of}
+use Rattle.signed.proofs.SignedLaws.{size-of}
 use Rattle.difference.proofs.Points.{a-in, b-in}
 use Rattle.difference.proofs.Pairs.{both-coloured, pair-hue-difference-is, pair-mean-is}
 use borrow.Author.Needs.{needs}

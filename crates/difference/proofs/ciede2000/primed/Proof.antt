@@ -1,5 +1,5 @@
 -- `difference::ciede2000::primed` meets its contract. Assumes nothing.
-use Rattle.difference.proofs.Sizes.{size-of}
+use Rattle.signed.proofs.SignedLaws.{size-of}
 use Rattle.difference.proofs.Points.{a-in, b-in, point-primed}
 use borrow.Author.Needs.{needs}
 use Rattle.difference.proofs.ciede2000.primed.Statement.{statement}

@@ -1,10 +1,11 @@
 -- `difference::ciede2000::weighting_terms` meets its contract. Assumes nothing.
 use mathlib.Core.Path.{ap, _∙_}
-use Prim.Native.Nat.{ℕ}
+use Prim.Native.Nat.{ℕ, _*_, _/_}
 use native.Mathlib.Nat.{le-trans, le-of-eq}
 use native.Mathlib.Omega.{arith}
 use Rattle.chroma.proofs.ChromaLaws.{ratio-le}
-use Rattle.weighting.specs.Weighting.{hueWeight, rotation}
+use Rattle.gaussian.proofs.GaussianLaws.{gaussian-le}
+use Rattle.weighting.specs.Weighting.{hueWeight, rotationSine, rotation}
 use Rattle.weighting.proofs.WeightingLaws.{hue-term-le}
 use Rattle.difference.specs.Pair.{termsOf}
 use borrow.Author.Needs.{needs}
@@ -15,16 +16,12 @@ hue-weight-requires : tie.Need-hue-weight-requires
 hue-weight-requires c κs = (omega arith, le-trans (le-of-eq (c .before .before .hue-term .ensures)) (hue-term-le _))
 
 rotation-term-requires : tie.Need-rotation-term-requires
-rotation-term-requires c κs = (
-  c .before .before .before .before .before .pre .0,
-  (
-    c .before .before .before .before .before .pre .1 .0,
-    (le-trans (le-of-eq (c .ratio .ensures)) (ratio-le _), c .before .before .before .before .before .pre .1 .1 .1 .1),
-  ),
-)
+rotation-term-requires c κs =
+    let s = c .before .before .before .before .before .pre in
+    (s .0, (le-trans (le-of-eq (s .1 .0)) (gaussian-le _), le-trans (le-of-eq (c .ratio .ensures)) (ratio-le _)))
 
 returns : tie.Need-returns
-unfolding termsOf
+unfolding termsOf rotation
 returns c =
     let s = c .before .before .before .before .before .before in
     let t = c .before .before .before .before .before .hue-term .ensures in
@@ -33,7 +30,7 @@ returns c =
       sl = c .before .before .before .before .lightness-weight .ensures i;
       sc = c .before .before .before .chroma-weight .ensures i;
       sh = (c .before .before .hue-weight .ensures ∙ ap (λ (n : ℕ). hueWeight (s .args .sum) n) t) i;
-      r = (c .rotation-term .ensures ∙ ap (λ (n : ℕ). rotation n (s .args .mean)) (c .before .ratio .ensures)) i;
+      r = (c .rotation-term .ensures ∙ (λ j. 2 * c .before .ratio .ensures j * rotationSine (s .pre .1 .0 j) / 1000000000)) i;
     }
 
 pub weighting-terms-spec : {M : Type 1} → statement M

@@ -12,7 +12,7 @@ use Rattle.signed.specs.Inner.{int}
 use Rattle.signed.proofs.SignedLaws.{mul-neg, neg-quot}
 use Rattle.difference.specs.Parts.{sumOf, combined}
 use Rattle.difference.specs.Inner.{signedParts}
-use Rattle.difference.proofs.Sizes.{square-le}
+use Rattle.signed.proofs.Squares.{square-le}
 use borrow.Author.Needs.{needs}
 use Rattle.difference.proofs.parts.root_of_parts.Statement.{statement}
 use Rattle.difference.proofs.parts.root_of_parts.Tie as tie

@@ -6,7 +6,7 @@ use Rattle.signed.specs.Inner.{int}
 use Rattle.signed.specs.declared.Int.{Int}
 use Rattle.signed.proofs.SignedLaws.{int-size}
 use Rattle.difference.specs.Parts.{squared}
-use Rattle.difference.proofs.Sizes.{square-le}
+use Rattle.signed.proofs.Squares.{square-le}
 use Rattle.difference.proofs.parts.sum_of_squares.Statement.{statement}
 use Rattle.difference.proofs.parts.sum_of_squares.Tie as tie
 

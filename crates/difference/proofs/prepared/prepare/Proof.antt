@@ -6,7 +6,7 @@ use Rattle.signed.specs.Inner.{int}
 use Rattle.sample.specs.Inner.{labOf}
 use Rattle.difference.specs.Pair.{sampleChroma}
 use Rattle.difference.specs.Inner.{preparedSample}
-use Rattle.difference.proofs.Sizes.{size-of}
+use Rattle.signed.proofs.SignedLaws.{size-of}
 use borrow.Author.Needs.{needs}
 use Rattle.difference.proofs.prepared.prepare.Statement.{statement}
 use Rattle.difference.proofs.prepared.prepare.Tie as tie
