@@ -1,0 +1,2 @@
+-- What the contracts of `near` cite: inner ones alone.
+pub mod Inner
