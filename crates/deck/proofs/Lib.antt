@@ -3,6 +3,6 @@ pub mod DeckLaws
 pub mod Orderly
 pub mod Lanes
 pub mod LightnessWindow
+pub mod FarSwatch
 pub mod Searching
-pub mod Steps
 pub mod Examples

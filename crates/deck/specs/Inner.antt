@@ -11,6 +11,7 @@ use Rattle.places.specs.Inner.{laneAt, Spans}
 use Rattle.sample.specs.Sample.{Colour, colourRefusal}
 use Rattle.sample.specs.Inner.{WeightsIn}
 use Rattle.difference.specs.Inner.{preparedSample, Ready}
+use Rattle.near.specs.Inner.{IsNeighbourhood}
 use Rattle.deck.specs.Deck.{Deck, FixedQuery, mostSwatches, sizesIn, deckRefusal}
 use Rattle.deck.specs.declared.PreparedQuery.{PreparedQuery}
 use Rattle.deck.specs.declared.Layout.{Layout}
@@ -20,11 +21,12 @@ use Rattle.deck.specs.declared.Layout.{Layout}
 abbrev pub queryOf : PreparedQuery → FixedQuery
 queryOf q = record { weights = q .weights; reading = preparedSample (q .reading); tolerance = q .tolerance }
 
--- weights, a reading and a tolerance within their limits
+-- weights, a reading and a tolerance within their limits, and their neighbourhood
 pub record Accepted (q : PreparedQuery) : Type 0 where
   pub weights : WeightsIn (q .weights)
   pub reading : Ready (q .reading)
   pub tolerance : q .tolerance ≤ 1000000
+  pub near : IsNeighbourhood (q .weights) (q .tolerance) (preparedSample (q .reading)) (q .near)
 
 -- q is the query x
 pub record IsQuery (x : FixedQuery) (q : PreparedQuery) : Type 0 where

@@ -9,22 +9,26 @@ ghost use lib.IntN.{pos, _-ℤ_};
 ghost use lib.ListN.{length, take};
 ghost use Rattle.sine.specs.Inner.{SineTable};
 ghost use Rattle.gaussian.specs.Inner.{GaussianTable};
-ghost use Rattle.places.specs.Places.{hits, rising};
+ghost use Rattle.places.specs.Places.{every, hits, rising};
 ghost use Rattle.places.specs.Inner.{laneAt, Spans, Split};
-ghost use Rattle.sample.specs.Inner.{colourOf, WeightIn};
+ghost use Rattle.sample.specs.Sample.{colourSample};
+ghost use Rattle.sample.specs.Inner.{colourOf, labOf, AcceptedSample, SampleIn, WeightIn};
 ghost use Rattle.fixed_point.specs.Refusals.{readingRefusal, weightsRefusal, toleranceRefusal};
-ghost use Rattle.difference.specs.Inner.{Millionths};
-ghost use Rattle.deck.specs.Deck.{columns, asked, fixedQuery, mostSwatches, sizesIn, swatchesIn, deckRefusal};
-ghost use Rattle.deck.specs.Deck.{searchRefusal, differenceAt, matchAt, matchList};
+ghost use Rattle.difference.specs.Ciede2000.{ciede2000Of};
+ghost use Rattle.difference.specs.Inner.{preparedSample, Millionths};
+ghost use Rattle.deck.specs.Deck.{columns, asked, fixedQuery, mostSwatches, sizesIn, deckRefusal};
+ghost use Rattle.deck.specs.Deck.{searchRefusal, matchAt, matchList};
 ghost use Rattle.deck.specs.Answers.{foundOf, contentsOf};
 ghost use Rattle.deck.specs.Search.{Searches};
 ghost use Rattle.deck.specs.Inner.{queryOf, Accepted, IsQuery, ScratchIs};
-ghost use Rattle.deck.specs.Inner.{lanesAt, lanes, columnsLayout, Laid, Usable};
+ghost use Rattle.deck.specs.Inner.{lanesAt, lanes, columnsLayout, Laid, Usable, swatchInOrder};
 use difference::prepared::Prepared;
 use fixed_point::Reading;
 use fixed_point::Weights;
+use near::Neighbourhood;
 use sample::FixedColour;
 use sample::FixedWeights;
+use sample::Lab;
 
 // The most swatches of a deck.
 pub const MOST_SWATCHES: usize = 4096;
@@ -42,6 +46,7 @@ struct PreparedQuery {
     weights: FixedWeights,
     reading: Prepared,
     tolerance: u64,
+    near: Neighbourhood,
 }
 
 // How a deck lies in its lanes: whether its size is in order, how far apart two swatches stand, and
@@ -92,19 +97,27 @@ fn colour_at(stride: usize, l: &[i32], a: &[i32], b: &[i32], k: usize) -> FixedC
 
 // ---- refusals
 
-// Whether each swatch is within the limits.
-fn swatches_in(s: Layout, l: &[i32], a: &[i32], b: &[i32]) -> bool
+// Whether each swatch is within the limits, and no darker than the one before it. The walk has no branch and
+// no way out before its end, so that several swatches are tested at once.
+fn swatches_in_order(s: Layout, l: &[i32], a: &[i32], b: &[i32]) -> bool
     requires { ⌜ Laid s (now l) (now a) (now b) ⌝ }
-    ensures { λ r. ⌜ r ≡ swatchesIn (lanes s (now (l .entry)) (now (a .entry)) (now (b .entry))) ⌝ }
+    ensures { λ r. ⌜ r ≡ every (swatchInOrder (lanes s (now (l .entry)) (now (a .entry)) (now (b .entry)))) (s .count) ⌝ }
 {
+    let mut orderly = true;
+    let mut before = 0;
     let mut k = 0;
     while k < s.count {
-        if sample::colour_refusal(colour_at(s.stride, l, a, b, k)) != 0 {
-            return false;
-        }
+        let lightness = places::entry(l, s.stride, k);
+        let within = sample::within_limits(
+            lightness,
+            places::entry(a, s.stride, k),
+            places::entry(b, s.stride, k),
+        );
+        orderly = orderly & ((before <= lightness) & within);
+        before = lightness;
         k += 1;
     }
-    true
+    orderly
 }
 
 // Refusal 6 or 7 of a deck in lanes, or 0.
@@ -113,11 +126,8 @@ fn lanes_refusal(s: Layout, l: &[i32], a: &[i32], b: &[i32]) -> u8
     ensures { λ r. ⌜ r ≡ deckRefusal (lanes s (now (l .entry)) (now (a .entry)) (now (b .entry))) ⌝ }
 {
     if s.sized {
-        if swatches_in(s, l, a, b) {
-            if places::rises(l, s.stride, s.count) {
-                return 0;
-            }
-            return 7; // lightness falls
+        if swatches_in_order(s, l, a, b) {
+            return 0;
         }
         return 7;
     }
@@ -165,33 +175,35 @@ fn prepare_query(reading: Reading, weights: Weights, tolerance: f32) -> Prepared
     requires { ⌜ toleranceRefusal tolerance ≡ 0 ⌝ }
     ensures { λ r. ⌜ IsQuery (fixedQuery (asked reading weights tolerance)) r ⌝ }
 {
+    let w = fixed_point::fixed_weights(weights);
+    let r = fixed_point::fixed_reading(reading);
+    let t = fixed_point::fixed_tolerance(tolerance);
     PreparedQuery {
-        weights: fixed_point::fixed_weights(weights),
-        reading: difference::prepared::prepare(fixed_point::fixed_reading(reading)),
-        tolerance: fixed_point::fixed_tolerance(tolerance),
+        weights: w,
+        reading: difference::prepared::prepare(r),
+        tolerance: t,
+        near: near::neighbourhood_of(w, t, r),
     }
 }
 
-// The difference of the swatch at a place, which is sample 1, and the reading.
-fn difference_at(
-    sines: &[u32; 901],
-    gaussians: &[u32; 1201],
-    q: PreparedQuery,
-    s: Layout,
-    l: &[i32],
-    a: &[i32],
-    b: &[i32],
-    k: usize,
-) -> u64
-    requires { ⌜ (SineTable (now sines)) × (GaussianTable (now gaussians)) ⌝ }
-    requires { ⌜ Accepted q ⌝ }
+// The swatch at a place, as a sample of the working.
+fn swatch_at(s: Layout, l: &[i32], a: &[i32], b: &[i32], k: usize) -> Lab
     requires { ⌜ Usable s (now l) (now a) (now b) ⌝ }
     requires { ⌜ k < s .count ⌝ }
     ensures { λ r.
         let deck = lanes s (now (l .entry)) (now (a .entry)) (now (b .entry)) in
-        ⌜ Millionths (differenceAt (queryOf q) deck k) r ⌝ }
+        ⌜ AcceptedSample (colourSample (deck .colour k)) r ⌝ }
 {
-    let swatch = sample::sample_of(colour_at(s.stride, l, a, b, k));
+    sample::sample_of(colour_at(s.stride, l, a, b, k))
+}
+
+// The difference of a swatch, which is sample 1, and the reading.
+fn difference_of(sines: &[u32; 901], gaussians: &[u32; 1201], q: PreparedQuery, swatch: Lab) -> u64
+    requires { ⌜ (SineTable (now sines)) × (GaussianTable (now gaussians)) ⌝ }
+    requires { ⌜ Accepted q ⌝ }
+    requires { ⌜ SampleIn (labOf swatch) ⌝ }
+    ensures { λ r. ⌜ Millionths (ciede2000Of (q .weights) (labOf swatch) (preparedSample (q .reading))) r ⌝ }
+{
     difference::ciede2000::ciede2000(
         sines,
         gaussians,
@@ -201,7 +213,7 @@ fn difference_at(
     )
 }
 
-// Whether the swatch at a place matches.
+// Whether the swatch at a place matches. Most are too far off in a and b, which needs no working.
 fn matches_at(
     sines: &[u32; 901],
     gaussians: &[u32; 1201],
@@ -220,7 +232,11 @@ fn matches_at(
         let deck = lanes s (now (l .entry)) (now (a .entry)) (now (b .entry)) in
         ⌜ r ≡ matchAt (queryOf q) deck k ⌝ }
 {
-    let d = difference_at(sines, gaussians, q, s, l, a, b, k);
+    let swatch = swatch_at(s, l, a, b, k);
+    if near::beyond_radius(q.near, swatch) {
+        return false;
+    }
+    let d = difference_of(sines, gaussians, q, swatch);
     difference::verdict::within_tolerance(d, q.tolerance)
 }
 
