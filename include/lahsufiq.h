@@ -20,6 +20,7 @@
  * 15, 16), deck (6, 7), room. A float is held to its limits at its exact value, and then rounded to the nearest whole
  * number of 1/10,000, a half to the even one. Sample 1 is the standard, in lq_cie94 where the
  * caller says so. Results come through the pointers; on a refusal each is 0, and a list keeps its contents.
+ * lq_ciede2000_many refuses pair by pair and returns 0 itself.
  * No pointer may be null, not even that of a list of length 0, and what is written may not overlap any
  * other argument.
  */
@@ -47,6 +48,17 @@ uint32_t lq_cie94(float l1, float a1, float b1, float l2, float a2, float b2, fl
 /* CIEDE2000: refusals 1 to 4. */
 uint32_t lq_ciede2000(float l1, float a1, float b1, float l2, float a2, float b2, float kl, float kc, float kh,
                       double *difference);
+
+/* CIEDE2000 of many pairs, as a night's log holds them: the colours are L, a and b one after the other, and the
+ * lengths count floats, so that pair k is the floats 3 k, 3 k + 1 and 3 k + 2 of both lists. As many pairs are
+ * answered as every list holds whole, the least of standards_len / 3, samples_len / 3, differences_len and
+ * refusals_len; `*pairs` is their number, and entries past them keep their contents. `differences[k]` and
+ * `refusals[k]` are what lq_ciede2000 gives of pair k: its difference and 0, or 0 and a refusal of 1 to 4. One
+ * pair's refusal touches no other, and the call itself always returns 0. Tables and weights are made ready once
+ * for all pairs, so that a log takes less time than a call a pair. */
+uint32_t lq_ciede2000_many(const float *standards, size_t standards_len, const float *samples, size_t samples_len,
+                           float kl, float kc, float kh, double *differences, size_t differences_len,
+                           uint8_t *refusals, size_t refusals_len, size_t *pairs);
 
 /* The figures of CIEDE2000 as whole numbers: C1, a1', b1', C1', h1, C2, a2', b2', C2', h2, Z, far
  * (1 or 0), H, mean hue, T, SL, SC, SH, R, l, c, h, CIEDE2000. Chroma, a', b' and H in 10^-7, hues in

@@ -8,7 +8,8 @@ ghost use Rattle.difference.specs.Cie94.{cie94Of};
 ghost use Rattle.difference.specs.Ciede2000.{ciede2000Of, figuresOf};
 ghost use Rattle.difference.specs.Verdict.{withinTolerance};
 ghost use Rattle.measure.specs.Answers.{answerOf, refusalOf, differenceOf, yesOf, figuresAnswer};
-ghost use Rattle.measure.specs.Calls.{pairRefusal, weightedRefusal, verdictRefusal};
+ghost use Rattle.measure.specs.Calls.{pairRefusal, weightedRefusal, verdictRefusal, ciede2000Answer};
+ghost use Rattle.measure.specs.Many.{results, Compares};
 ghost use Rattle.deck.specs.Deck.{asked, columns};
 ghost use Rattle.deck.specs.Answers.{numberOf};
 ghost use Rattle.deck_file.specs.Transfers.{transferNumber, transferSize, lent};
@@ -154,10 +155,7 @@ pub extern "C" fn lq_ciede2000(
     difference: &mut f64,
 ) -> u32
     ensures { λ r.
-        let s = reading l1 a1 b1 in
-        let t = reading l2 a2 b2 in
-        let w = weights kl kc kh in
-        let answer = answerOf (weightedRefusal s t w) (ciede2000Of (weightsOf w) (sampleOf s) (sampleOf t)) in
+        let answer = ciede2000Answer (reading l1 a1 b1) (reading l2 a2 b2) (weights kl kc kh) in
         ⌜ Hands answer r (now (difference .exit)) ⌝ }
 {
     let s = Reading {
@@ -178,6 +176,36 @@ pub extern "C" fn lq_ciede2000(
     let d = measure::ciede2000(s, t, w);
     *difference = value(d);
     number(d)
+}
+
+// CIEDE2000 of many pairs, each with its refusal. The call itself is never refused.
+#[no_mangle]
+pub extern "C" fn lq_ciede2000_many(
+    standards: &[f32],
+    samples: &[f32],
+    kl: f32,
+    kc: f32,
+    kh: f32,
+    differences: &mut [f64],
+    refusals: &mut [u8],
+    pairs: &mut usize,
+) -> u32
+    ensures number { λ r. ⌜ r ≡ 0 ⌝ }
+    ensures answers { λ _.
+        let w = weights kl kc kh in
+        let old = results (now (differences .entry)) (now (refusals .entry)) in
+        let new = results (now (differences .exit)) (now (refusals .exit)) in
+        ⌜ Compares (now (standards .entry)) (now (samples .entry)) w old new (now (pairs .exit)) ⌝ }
+    ensures colours { λ _. ⌜ (now (standards .exit) ≡ now (standards .entry))
+        × (now (samples .exit) ≡ now (samples .entry)) ⌝ }
+{
+    let w = Weights {
+        l: kl,
+        c: kc,
+        h: kh,
+    };
+    *pairs = measure::ciede2000_many(standards, samples, w, differences, refusals);
+    0
 }
 
 // 1 for yes and 0 for no.

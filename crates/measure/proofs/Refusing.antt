@@ -72,6 +72,9 @@ verdict-is s t w x = first-then (readingRefusal s ∷ readingRefusal t ∷ weigh
 pub pair-none : (s t : Reading) → pairRefusal s t ≡ 0 → (readingRefusal s ≡ 0) × (readingRefusal t ≡ 0)
 pair-none s t e = first-none _ _ (pair-is s t ∙ e)
 
+pub rounded-none : (s t : Reading) (k : ℕ) → firstOf (pairRefusal s t) k ≡ 0 → (readingRefusal s ≡ 0) × (readingRefusal t ≡ 0)
+rounded-none s t k e = pair-none s t (first-none _ _ e .0)
+
 pub record Unrefused (s t : Reading) (w : Weights) : Type 0 where
   pub first : readingRefusal s ≡ 0
   pub second : readingRefusal t ≡ 0

@@ -13,7 +13,7 @@ ghost use Rattle.difference.specs.declared.cie94.Comparison.the-variants.{Witho
 ghost use Rattle.difference.specs.Ciede2000.{figuresOf, ciede2000Of};
 ghost use Rattle.difference.specs.Inner.{intermediateFigures, IsPrepared, IsFigures, FiguresIn, Millionths};
 ghost use Rattle.measure.specs.Answers.{doubleOf, answerOf, figuresRow, figuresAnswer};
-ghost use Rattle.measure.specs.Calls.{pairRefusal, weightedRefusal, verdictRefusal};
+ghost use Rattle.measure.specs.Calls.{pairRefusal, weightedRefusal, verdictRefusal, ciede2000Answer};
 ghost use Rattle.measure.specs.Judged.{Judged};
 use difference::cie94::Application;
 use difference::cie94::Comparison;
@@ -21,6 +21,10 @@ use difference::ciede2000::Intermediates;
 use difference::prepared::Prepared;
 use fixed_point::Reading;
 use fixed_point::Weights;
+
+mod many;
+
+pub use many::ciede2000_many;
 
 // The difference, or the number of the refusal.
 pub enum Difference {
@@ -133,16 +137,12 @@ fn millionths(standard: Reading, sample: Reading, weights: Weights) -> u64
     let w = fixed_point::fixed_weights(weights);
     let s = prepared(standard);
     let t = prepared(sample);
-    let sines = sine::sine_table();
-    let gaussians = gaussian::gaussian_table();
-    difference::ciede2000::ciede2000(&sines, &gaussians, w, s, t)
+    difference::ciede2000::ciede2000_once(w, s, t)
 }
 
 // CIEDE2000 of two readings: the same with the samples exchanged, and zero for samples that round to the same.
 pub fn ciede2000(standard: Reading, sample: Reading, weights: Weights) -> Difference
-    ensures is { λ r.
-        let refusal = weightedRefusal standard sample weights in
-        ⌜ r ≡ answerOf refusal (ciede2000Of (weightsOf weights) (sampleOf standard) (sampleOf sample)) ⌝ }
+    ensures is { λ r. ⌜ r ≡ ciede2000Answer standard sample weights ⌝ }
     ensures symmetric { λ r.
         let refusal = weightedRefusal standard sample weights in
         ⌜ r ≡ answerOf refusal (ciede2000Of (weightsOf weights) (sampleOf sample) (sampleOf standard)) ⌝ }

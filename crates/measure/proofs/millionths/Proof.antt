@@ -17,26 +17,22 @@ prepared-requires c κs = weighted-none _ _ _ (c .before .pre) .first
 prepared-requires-2 : tie.Need-prepared-requires-2
 prepared-requires-2 c κs = weighted-none _ _ _ (c .before .before .pre) .second
 
-ciede2000-requires : tie.Need-ciede2000-requires
-ciede2000-requires c κs =
-    let p = c .before .before .before .before in
-    let w = p .before .before in (
-      (c .before .before .before .sine-table .ensures, c .before .before .gaussian-table .ensures),
-      (
-        subst WeightsIn (sym (w .fixed-weights .ensures)) (weights-in _ (weighted-none _ _ _ (w .before .pre) .weights)),
-        (p .before .prepared .ensures .ready, p .prepared2 .ensures .ready),
-      ),
+ciede2000-once-requires : tie.Need-ciede2000-once-requires
+ciede2000-once-requires c κs =
+    let w = c .before .before in (
+      subst WeightsIn (sym (w .fixed-weights .ensures)) (weights-in _ (weighted-none _ _ _ (w .before .pre) .weights)),
+      (c .before .prepared .ensures .ready, c .prepared2 .ensures .ready),
     )
 
 returns : tie.Need-returns
 returns c =
-    let p = c .before .before .before .before .before in
+    let p = c .before in
     let w = p .before .before in
     record {
       is =
-          c .ciede2000 .ensures .is
+          c .ciede2000-once .ensures .is
           ∙ (λ i. ciede2000Of (w .fixed-weights .ensures i) (p .before .prepared .ensures .is i) (p .prepared2 .ensures .is i));
-      small = c .ciede2000 .ensures .small;
+      small = c .ciede2000-once .ensures .small;
     }
 
 pub millionths-spec : {M : Type 1} → statement M
@@ -46,7 +42,5 @@ millionths-spec =
     fixed-weights-requires
     prepared-requires
     prepared-requires-2
-    (λ c κs. search needs)
-    (λ c κs. search needs)
-    ciede2000-requires
+    ciede2000-once-requires
     returns)
