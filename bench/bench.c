@@ -3,9 +3,9 @@
  * of several rounds, in which the methods take turns on the same data. */
 #define _GNU_SOURCE
 #include "lahsufiq.h"
+#include "plain.h"
 
 #include <fcntl.h>
-#include <math.h>
 #include <stdio.h>
 #include <stdlib.h>
 #include <string.h>
@@ -18,9 +18,7 @@
 #include <lcms2.h>
 #endif
 
-enum { ROUNDS = 9, PAIRS = 20000, READINGS = 40, MOST_SWATCHES = 4096, LINES = 200000, FILES = 200 };
-
-static const double PI = 3.14159265358979323846;
+enum { ROUNDS = 9, PAIRS = 20000, READINGS = 40, MOST_SWATCHES = 4096, CENTRES = 12, LINES = 200000, FILES = 200 };
 
 typedef struct {
     float l, a, b;
@@ -70,44 +68,9 @@ static double proved(const Sample *s1, const Sample *s2) {
     return difference;
 }
 
-static double degrees(double b, double a) {
-    if (a == 0 && b == 0) return 0;
-    double h = atan2(b, a) * 180 / PI;
-    return h < 0 ? h + 360 : h;
-}
+static Colour colour(const Sample *s) { return (Colour){s->l, s->a, s->b}; }
 
-static double cosine(double angle) { return cos(angle * PI / 180); }
-
-static double seventh(double c) { return sqrt(pow(c, 7) / (pow(c, 7) + 6103515625.0)); }
-
-/* Source 001's equations in double precision, as one would write them down. */
-static double plain(const Sample *s1, const Sample *s2) {
-    double l1 = s1->l, a1 = s1->a, b1 = s1->b, l2 = s2->l, a2 = s2->a, b2 = s2->b;
-    double mean_chroma = (sqrt(a1 * a1 + b1 * b1) + sqrt(a2 * a2 + b2 * b2)) / 2;
-    double g = 0.5 * (1 - seventh(mean_chroma));
-    a1 *= 1 + g;
-    a2 *= 1 + g;
-    double c1 = sqrt(a1 * a1 + b1 * b1), c2 = sqrt(a2 * a2 + b2 * b2);
-    double h1 = degrees(b1, a1), h2 = degrees(b2, a2);
-    double dh = h2 - h1, mean_h = h1 + h2;
-    if (c1 * c2 == 0) {
-        dh = 0;
-    } else if (fabs(dh) <= 180) {
-        mean_h /= 2;
-    } else {
-        dh += dh > 0 ? -360 : 360;
-        mean_h = (mean_h + (mean_h < 360 ? 360 : -360)) / 2;
-    }
-    double dl = l2 - l1, dc = c2 - c1, dhh = 2 * sqrt(c1 * c2) * sin(dh / 2 * PI / 180);
-    double mean_c = (c1 + c2) / 2, from_50 = (l1 + l2) / 2 - 50;
-    double t = 1 - 0.17 * cosine(mean_h - 30) + 0.24 * cosine(2 * mean_h) + 0.32 * cosine(3 * mean_h + 6) -
-               0.20 * cosine(4 * mean_h - 63);
-    double turn = (mean_h - 275) / 25;
-    double rt = -sin(60 * exp(-turn * turn) * PI / 180) * 2 * seventh(mean_c);
-    double l = dl / (1 + 0.015 * from_50 * from_50 / sqrt(20 + from_50 * from_50));
-    double c = dc / (1 + 0.045 * mean_c), h = dhh / (1 + 0.015 * mean_c * t);
-    return sqrt(l * l + c * c + h * h + rt * c * h);
-}
+static double plain(const Sample *s1, const Sample *s2) { return plain_ciede2000(colour(s1), colour(s2)).difference; }
 
 #ifdef LCMS
 static double lcms(const Sample *s1, const Sample *s2) {
@@ -181,9 +144,10 @@ static void head(const char *columns) {
     printf("\n");
 }
 
-static void row(const double times[METHODS], double unit, int places) {
+/* The rest of a row: the times with so many places, and the ratios with theirs. */
+static void row(const double times[METHODS], double unit, int places, int ratio_places) {
     for (int m = 0; m < METHODS; m++) printf(" %.*f |", places, times[m] * unit);
-    for (int m = 1; m < METHODS; m++) printf(" %.2f |", times[0] / times[m]);
+    for (int m = 1; m < METHODS; m++) printf(" %.*f |", ratio_places, times[0] / times[m]);
     printf("\n");
 }
 
@@ -198,7 +162,44 @@ static void pairs_of(const char *what, const Method methods[METHODS], const Samp
         }
     for (int m = 0; m < METHODS; m++) medians[m] = median(times[m]);
     printf("| %s |", what);
-    row(medians, 1e9, 0);
+    row(medians, 1e9, 0, 2);
+}
+
+/* The differences of all pairs: Lahsufiq's in one call, those of another method in a loop. */
+static void differences_of(int m, const Sample *first, const Sample *second, double differences[PAIRS]) {
+    static uint8_t refusals[PAIRS];
+    size_t answered;
+    _Static_assert(sizeof(Sample) == 3 * sizeof(float), "samples are their floats one after the other");
+    if (m == 0)
+        lq_ciede2000_many((const float *)first, 3 * PAIRS, (const float *)second, 3 * PAIRS, 1, 1, 1, differences,
+                          PAIRS, refusals, PAIRS, &answered);
+    else
+        for (int i = 0; i < PAIRS; i++) differences[i] = CIEDE2000[m](&first[i], &second[i]);
+}
+
+/* The call on many pairs has to give what the call on one pair gives. */
+static void compare_many(const char *what, const Sample *first, const Sample *second) {
+    static double differences[PAIRS];
+    int other = 0;
+    differences_of(0, first, second, differences);
+    for (int i = 0; i < PAIRS; i++) other += differences[i] != proved(&first[i], &second[i]);
+    if (other) fprintf(stderr, "bench: pairs %s: %d of %d differences change in one call\n", what, other, PAIRS);
+}
+
+static void many_of(const char *what, const Sample *first, const Sample *second) {
+    static double differences[METHODS][PAIRS];
+    double times[METHODS][ROUNDS], medians[METHODS];
+    for (int round = 0; round < ROUNDS; round++)
+        for (int m = 0; m < METHODS; m++) {
+            double began = processor_seconds();
+            differences_of(m, first, second, differences[m]);
+            times[m][round] = (processor_seconds() - began) / PAIRS;
+            sink = differences[m][round];
+        }
+    for (int m = 0; m < METHODS; m++) medians[m] = median(times[m]);
+    printf("| %s |", what);
+    row(medians, 1e9, 0, 2);
+    compare_many(what, first, second);
 }
 
 /* How far a method's CIE94 lies from Lahsufiq's, at most. */
@@ -220,6 +221,10 @@ static void bench_pairs(void) {
     head("| Pairs |");
     pairs_of("anywhere", CIEDE2000, first, far_second);
     pairs_of("near each other", CIEDE2000, first, near_second);
+    printf("\nCIEDE2000 of %d pairs in one call, nanoseconds a pair, beside a loop\n\n", PAIRS);
+    head("| Pairs |");
+    many_of("anywhere", first, far_second);
+    many_of("near each other", first, near_second);
     printf("\nOne CIE94 difference for textiles without a standard, nanoseconds\n\n");
     head("| Pairs |");
     pairs_of("anywhere", CIE94, first, far_second);
@@ -243,14 +248,10 @@ static int by_lightness(const void *x, const void *y) {
     return (a[0] > b[0]) - (a[0] < b[0]);
 }
 
-/* Swatches spread over L from 0 to 100, a and b from -100 to 100, in rising lightness. */
-static void fill(Deck *deck, size_t size) {
-    static int32_t rows[MOST_SWATCHES][3];
-    for (size_t i = 0; i < size; i++) {
-        rows[i][0] = random_grid(0, 1000000);
-        rows[i][1] = random_grid(-1000000, 1000000);
-        rows[i][2] = random_grid(-1000000, 1000000);
-    }
+static int32_t rows[MOST_SWATCHES][3];
+
+/* The deck of the first rows, in rising lightness. */
+static void take_rows(Deck *deck, size_t size) {
     qsort(rows, size, sizeof rows[0], by_lightness);
     deck->size = size;
     for (size_t i = 0; i < size; i++) {
@@ -259,6 +260,29 @@ static void fill(Deck *deck, size_t size) {
         deck->b[i] = rows[i][2];
         deck->swatch[i] = (Sample){(float)(rows[i][0] / 1e4), (float)(rows[i][1] / 1e4), (float)(rows[i][2] / 1e4)};
     }
+}
+
+/* Swatches spread over L from 0 to 100, a and b from -100 to 100. */
+static void fill(Deck *deck, size_t size) {
+    for (size_t i = 0; i < size; i++) {
+        rows[i][0] = random_grid(0, 1000000);
+        rows[i][1] = random_grid(-1000000, 1000000);
+        rows[i][2] = random_grid(-1000000, 1000000);
+    }
+    take_rows(deck, size);
+}
+
+/* Swatches around a few colours, within 4 of one of them in L, a and b. */
+static void fill_clusters(Deck *deck, size_t size) {
+    int32_t centre[CENTRES][3];
+    for (int i = 0; i < CENTRES; i++) {
+        centre[i][0] = random_grid(100000, 900000);
+        centre[i][1] = random_grid(-800000, 800000);
+        centre[i][2] = random_grid(-800000, 800000);
+    }
+    for (size_t i = 0; i < size; i++)
+        for (int x = 0; x < 3; x++) rows[i][x] = centre[i % CENTRES][x] + random_grid(-40000, 40000);
+    take_rows(deck, size);
 }
 
 static size_t search(const Deck *deck, const Sample *r, float tolerance, uint16_t *places) {
@@ -275,55 +299,100 @@ static size_t scan(const Deck *deck, const Sample *r, float tolerance, uint16_t 
     return count;
 }
 
-static void bench_searches(void) {
-    static const size_t SIZE[] = {16, 256, 4096};
-    static const float TOLERANCE[] = {0.5f, 2, 5};
-    static Deck deck;
-    static uint16_t places[MOST_SWATCHES];
+typedef struct {
+    Deck deck;
     Sample readings[READINGS];
-    double grown[3][3];
+} Searched;
+
+/* A deck, and readings near swatches of it. */
+static void draw(Searched *s, size_t size, void (*filled)(Deck *, size_t)) {
+    filled(&s->deck, size);
+    for (int i = 0; i < READINGS; i++) s->readings[i] = near(s->deck.swatch[next_random() % s->deck.size], 20000);
+}
+
+/* The matches of so many searches, Lahsufiq's or scans. */
+static size_t matches_of(int m, const Searched *s, float tolerance, int searches) {
+    static uint16_t places[MOST_SWATCHES];
+    size_t count = 0;
+    for (int i = 0; i < searches; i++) {
+        const Sample *r = &s->readings[i % READINGS];
+        count += m == 0 ? search(&s->deck, r, tolerance, places) : scan(&s->deck, r, tolerance, places, CIEDE2000[m]);
+    }
+    return count;
+}
+
+/* Prints a row; gives the time of Lahsufiq. */
+static double searches_of(const Searched *s, float tolerance) {
+    double times[METHODS][ROUNDS], medians[METHODS];
+    size_t matches[METHODS] = {0};
+    /* small decks are searched more often, so that a round is long enough to be timed */
+    int searches = READINGS * (int)(MOST_SWATCHES / s->deck.size);
+    for (int round = 0; round < ROUNDS; round++)
+        for (int m = 0; m < METHODS; m++) {
+            double began = processor_seconds();
+            matches[m] = matches_of(m, s, tolerance, searches);
+            times[m][round] = (processor_seconds() - began) / searches;
+        }
+    for (int m = 0; m < METHODS; m++) medians[m] = median(times[m]);
+    printf("| %zu | %.1f | %.2f |", s->deck.size, tolerance, (double)matches[0] / searches);
+    row(medians, 1e6, 2, 3);
+    for (int m = 1; m < METHODS; m++)
+        if (matches[m] != matches[0])
+            fprintf(stderr, "bench: %s finds %zu matches, not %zu\n", NAME[m], matches[m], matches[0]);
+    return medians[0];
+}
+
+enum { SIZES = 4, TOLERANCES = 4 };
+
+/* No swatch matches at tolerance 0: it shows what every search takes, above all the test of the deck. */
+static const float TOLERANCE[TOLERANCES] = {0, 0.5f, 2, 5};
+
+static void print_growth(const size_t size[SIZES], double times[SIZES][TOLERANCES]) {
+    static const int STEP[][2] = {{0, 1}, {1, 2}, {2, 3}, {1, 3}};
+    enum { STEPS = sizeof STEP / sizeof STEP[0] };
+    printf("\nHow many times as long a search of a larger deck takes\n\n| Tolerance |");
+    for (int i = 0; i < STEPS; i++) {
+        size_t from = size[STEP[i][0]], to = size[STEP[i][1]];
+        printf(" %zu to %zu, %zu times as many |", from, to, to / from);
+    }
+    printf("\n|---|");
+    for (int i = 0; i < STEPS; i++) printf("---|");
+    for (int t = 0; t < TOLERANCES; t++) {
+        printf("\n| %.1f |", TOLERANCE[t]);
+        for (int i = 0; i < STEPS; i++) printf(" %.1f |", times[STEP[i][1]][t] / times[STEP[i][0]][t]);
+    }
+    printf("\n");
+}
+
+static void bench_searches(void) {
+    static const size_t SIZE[SIZES] = {16, 256, 1024, 4096};
+    static Searched spread[SIZES], clustered;
+    double times[SIZES][TOLERANCES];
+    draw(&spread[0], SIZE[0], fill);
+    draw(&spread[1], SIZE[1], fill);
+    draw(&spread[3], SIZE[3], fill);
+    /* the newer decks from a seed of their own, so that the random data of the others do not change */
+    uint64_t others = state;
+    state = 1024;
+    draw(&spread[2], SIZE[2], fill);
+    draw(&clustered, MOST_SWATCHES, fill_clusters);
+    state = others;
+
     printf("One search, microseconds, beside a scan of the whole deck (ratio: Lahsufiq's time to the scan's)\n\n");
     head("| Swatches | Tolerance | Matches |");
-    for (int s = 0; s < 3; s++) {
-        fill(&deck, SIZE[s]);
-        for (int i = 0; i < READINGS; i++) readings[i] = near(deck.swatch[next_random() % deck.size], 20000);
-        for (int t = 0; t < 3; t++) {
-            double times[METHODS][ROUNDS], medians[METHODS];
-            size_t matches[METHODS] = {0};
-            /* small decks are searched more often, so that a round is long enough to be timed */
-            int repeats = (int)(MOST_SWATCHES / deck.size);
-            for (int round = 0; round < ROUNDS; round++)
-                for (int m = 0; m < METHODS; m++) {
-                    double began = processor_seconds();
-                    size_t count = 0;
-                    for (int i = 0; i < READINGS * repeats; i++) {
-                        const Sample *r = &readings[i % READINGS];
-                        count += m == 0 ? search(&deck, r, TOLERANCE[t], places)
-                                        : scan(&deck, r, TOLERANCE[t], places, CIEDE2000[m]);
-                    }
-                    times[m][round] = (processor_seconds() - began) / (READINGS * repeats);
-                    matches[m] = count;
-                }
-            for (int m = 0; m < METHODS; m++) medians[m] = median(times[m]);
-            grown[s][t] = medians[0];
-            printf("| %zu | %.1f | %.2f |", deck.size, TOLERANCE[t], (double)matches[0] / (READINGS * repeats));
-            row(medians, 1e6, 2);
-            for (int m = 1; m < METHODS; m++)
-                if (matches[m] != matches[0])
-                    fprintf(stderr, "bench: %s finds %zu matches, not %zu\n", NAME[m], matches[m], matches[0]);
-        }
-    }
-    printf("\nHow a search grows with the deck (both steps are 16 times as many swatches)\n\n");
-    printf("| Tolerance | 16 to 256 swatches | 256 to 4096 |\n|---|---|---|\n");
-    for (int t = 0; t < 3; t++)
-        printf("| %.1f | %.1f times | %.1f times |\n", TOLERANCE[t], grown[1][t] / grown[0][t], grown[2][t] / grown[1][t]);
+    for (int s = 0; s < SIZES; s++)
+        for (int t = 0; t < TOLERANCES; t++) times[s][t] = searches_of(&spread[s], TOLERANCE[t]);
+    print_growth(SIZE, times);
+    printf("\nOne search of a deck whose swatches lie around %d colours, microseconds, beside a scan\n\n", CENTRES);
+    head("| Swatches | Tolerance | Matches |");
+    for (int t = 0; t < TOLERANCES; t++) searches_of(&clustered, TOLERANCE[t]);
     printf("\n");
 }
 
 /* --- the text program --- */
 
-static void bench_program(const char *program) {
-    char file[] = "/tmp/lahsufiq-bench-XXXXXX";
+/* Random lines in a file of their own, whose name replaces the pattern. */
+static void write_lines(char *file) {
     int written = mkstemp(file);
     FILE *lines = written < 0 ? NULL : fdopen(written, "w");
     if (!lines) {
@@ -335,30 +404,86 @@ static void bench_program(const char *program) {
         fprintf(lines, "%.4f %.4f %.4f %.4f %.4f %.4f\n", s1.l, s1.a, s1.b, s2.l, s2.a, s2.b);
     }
     fclose(lines);
-    double times[ROUNDS];
-    for (int round = 0; round < ROUNDS; round++) {
-        pid_t child = fork();
-        if (child == 0) {
-            int in = open(file, O_RDONLY), out = open("/dev/null", O_WRONLY);
-            dup2(in, 0);
-            dup2(out, 1);
-            execl(program, program, (char *)NULL);
-            perror(program);
-            _exit(127);
-        }
-        int status;
-        struct rusage used;
-        if (wait4(child, &status, 0, &used) != child || status != 0) {
-            fprintf(stderr, "bench: %s failed\n", program);
-            exit(1);
-        }
-        times[round] = (double)used.ru_utime.tv_sec + 1e-6 * (double)used.ru_utime.tv_usec +
-                       (double)used.ru_stime.tv_sec + 1e-6 * (double)used.ru_stime.tv_usec;
+}
+
+/* Starts a program that reads the file and writes to the descriptor. */
+static pid_t start(const char *program, const char *file, int out) {
+    pid_t child = fork();
+    if (child != 0) return child;
+    dup2(open(file, O_RDONLY), 0);
+    dup2(out, 1);
+    execl(program, program, (char *)NULL);
+    perror(program);
+    _exit(127);
+}
+
+/* Waits for a program's end; its user and system time. */
+static double seconds_of(pid_t child, const char *program) {
+    int status;
+    struct rusage used;
+    if (wait4(child, &status, 0, &used) != child || status != 0) {
+        fprintf(stderr, "bench: %s failed\n", program);
+        exit(1);
     }
+    return (double)used.ru_utime.tv_sec + 1e-6 * (double)used.ru_utime.tv_usec + (double)used.ru_stime.tv_sec +
+           1e-6 * (double)used.ru_stime.tv_usec;
+}
+
+/* What a program answers to the file, as a stream. */
+static FILE *answers(const char *program, const char *file) {
+    FILE *out = tmpfile();
+    if (!out) {
+        perror("tmpfile");
+        exit(1);
+    }
+    seconds_of(start(program, file, fileno(out)), program);
+    rewind(out);
+    return out;
+}
+
+/* How far the first figures of another program's lines lie from those of pairs, at most; infinite where a
+ * line is no line of figures. */
+static double apart(const char *program, const char *other, const char *file, int figures) {
+    FILE *found = answers(program, file), *beside = answers(other, file);
+    char line[2][256];
+    double most = 0;
+    for (int i = 0; fgets(line[0], 256, found); i++) {
+        if (!fgets(line[1], 256, beside)) most = INFINITY;
+        char *x = line[0], *y = line[1], *after[2];
+        for (int f = 0; i > 0 && f < figures; f++, x = after[0], y = after[1]) {
+            double difference = strtod(x, &after[0]) - strtod(y, &after[1]);
+            most = after[0] == x || after[1] == y ? INFINITY : fmax(most, fabs(difference));
+        }
+    }
+    if (fgets(line[1], 256, beside)) most = INFINITY;
+    fclose(found);
+    fclose(beside);
+    return most;
+}
+
+/* The programs: pairs, and bench/pairs.c in plain double and with LittleCMS. */
+static void bench_program(char *program[METHODS]) {
+    static const int SAME_FIGURES[3] = {6, 6, 3};
+    char file[] = "/tmp/lahsufiq-bench-XXXXXX";
+    double times[METHODS][ROUNDS], medians[METHODS];
+    write_lines(file);
+    int nowhere = open("/dev/null", O_WRONLY);
+    for (int round = 0; round < ROUNDS; round++)
+        for (int m = 0; m < METHODS; m++) times[m][round] = seconds_of(start(program[m], file, nowhere), program[m]);
+    for (int m = 0; m < METHODS; m++) medians[m] = median(times[m]);
+    printf("The program pairs, seconds, beside bench/pairs.c: fgets, strtod, printf (ratio: Lahsufiq's time to the "
+           "other's)\n\n");
+    head("| Lines |");
+    printf("| %d |", LINES);
+    row(medians, 1, 3, 2);
+    printf("\npairs answers %.0f lines a second, %.0f nanoseconds a line", LINES / medians[0],
+           1e9 * medians[0] / LINES);
+    for (int m = 1; m < METHODS; m++)
+        printf("\n\nThe first %d figures of these lines: %s deviates by at most %.6f", SAME_FIGURES[m], NAME[m],
+               apart(program[0], program[m], file, SAME_FIGURES[m]));
+    printf("\n\n");
+    close(nowhere);
     unlink(file);
-    double seconds = median(times);
-    printf("The program pairs\n\n| Lines | Seconds | Lines a second | Nanoseconds a line |\n|---|---|---|---|\n");
-    printf("| %d | %.3f | %.0f | %.0f |\n\n", LINES, seconds, LINES / seconds, 1e9 * seconds / LINES);
 }
 
 /* --- deck files --- */
@@ -575,7 +700,7 @@ static void bench_imports(void) {
 int main(int count, char **arguments) {
     bench_pairs();
     bench_searches();
-    if (count > 1) bench_program(arguments[1]);
+    if (count > METHODS) bench_program(arguments + 1);
     /* last, and in this order, so that the random data of the others do not change */
     bench_files();
     bench_imports();

@@ -16,6 +16,11 @@ mod c {
         pub fn lq_ciede2000(
             l1: f32, a1: f32, b1: f32, l2: f32, a2: f32, b2: f32, kl: f32, kc: f32, kh: f32, difference: *mut f64,
         ) -> u32;
+        pub fn lq_ciede2000_many(
+            standards: *const f32, standards_len: usize, samples: *const f32, samples_len: usize, kl: f32, kc: f32,
+            kh: f32, differences: *mut f64, differences_len: usize, refusals: *mut u8, refusals_len: usize,
+            pairs: *mut usize,
+        ) -> u32;
         pub fn lq_figures(
             l1: f32, a1: f32, b1: f32, l2: f32, a2: f32, b2: f32, kl: f32, kc: f32, kh: f32, figures: *mut i64,
         ) -> u32;
@@ -93,6 +98,38 @@ pub fn ciede2000([l1, a1, b1]: Reading, [l2, a2, b2]: Reading, [kl, kc, kh]: [f3
     let mut difference = BEFORE;
     let refusal = unsafe { c::lq_ciede2000(l1, a1, b1, l2, a2, b2, kl, kc, kh, &mut difference) };
     (refusal, difference.to_bits())
+}
+
+/// The number returned and the number of pairs; `differences` and `refusals` are lent.
+pub fn ciede2000_many(
+    standards: &[f32],
+    samples: &[f32],
+    [kl, kc, kh]: [f32; 3],
+    differences: &mut [f64],
+    refusals: &mut [u8],
+) -> (u32, usize) {
+    let mut pairs = NUMBER_BEFORE;
+    let mut lent_differences = Lent::new(differences, BEFORE);
+    let mut lent_refusals = Lent::new(refusals, 0xc3);
+    let number = unsafe {
+        c::lq_ciede2000_many(
+            standards.as_ptr(),
+            standards.len(),
+            samples.as_ptr(),
+            samples.len(),
+            kl,
+            kc,
+            kh,
+            lent_differences.pointer(),
+            differences.len(),
+            lent_refusals.pointer(),
+            refusals.len(),
+            &mut pairs,
+        )
+    };
+    lent_differences.give_back("lq_ciede2000_many", differences);
+    lent_refusals.give_back("lq_ciede2000_many", refusals);
+    (number, pairs)
 }
 
 pub fn figures([l1, a1, b1]: Reading, [l2, a2, b2]: Reading, [kl, kc, kh]: [f32; 3]) -> (u32, [i64; FIGURES]) {

@@ -1,6 +1,7 @@
-//! Checks the tables in the code, entry by entry, against the series, and the parabolas of the integer
-//! square root against the root: an error there would show in no answer, only in the time.
-//! Arguments: the source files with the sines, the bell and the parabolas.
+//! Checks the tables in the code, entry by entry, against the series; and the parabolas of the integer
+//! square root against the root, and the polynomial of the hue against the arctangent: an error there
+//! would show in no answer, only in the time.
+//! Arguments: the source files with the sines, the bell, the parabolas and the polynomial.
 
 use reference::tables::{BELL, SINE};
 use reference::tally::Tally;
@@ -40,10 +41,28 @@ fn parabolas(t: &mut Tally, file: &str) {
     t.report(&format!("{file}, parabolas against the root"));
 }
 
+/// The estimate of a hue: the polynomial in u is the arctangent of u in tenths of a degree, at most 0.36
+/// off. The tenth below the hue is then the nearest one or the one before it, as the code takes it.
+fn polynomial(t: &mut Tally, file: &str) {
+    let source = std::fs::read_to_string(file).unwrap_or_else(|e| panic!("{file}: {e}"));
+    let body = source.split("fn arctangent(").nth(1).and_then(|rest| rest.split("\n{\n").nth(1)).expect("a body");
+    let body = body.split("\n}\n").next().expect("an end");
+    let words = body.split(|c: char| !c.is_ascii_digit()).filter(|word| !word.is_empty());
+    let figures: Vec<f64> = words.map(|word| word.parse().expect("a figure")).collect();
+    let [third, fifth, first] = figures[..] else { panic!("{file}: {figures:?} are not three figures") };
+    for step in 0..=1 << 16 {
+        let u = f64::from(step) / 65_536.0;
+        let found = u * (first - u * u * (third - u * u * fifth)) / 65_536.0;
+        let off = (found - 10.0 * u.atan().to_degrees()).abs();
+        t.same((file, "arctangent of", u, "off by", off), off <= 0.36, true);
+    }
+    t.report(&format!("{file}, the polynomial against the arctangent"));
+}
+
 fn main() {
     let mut t = Tally::new("tables");
     let files: Vec<String> = std::env::args().skip(1).collect();
-    let [sines, bell, root] = &files[..] else { panic!("three source files are needed") };
+    let [sines, bell, root, hue] = &files[..] else { panic!("four source files are needed") };
     for (file, series) in [(sines, &*SINE), (bell, &*BELL)] {
         let found = entries(file, series.len());
         t.same(("number of entries", file), found.len(), series.len());
@@ -53,5 +72,6 @@ fn main() {
         t.report(&format!("{file} against the series"));
     }
     parabolas(&mut t, root);
+    polynomial(&mut t, hue);
     t.end();
 }
