@@ -43,14 +43,14 @@ pub ciede2000-two-spec : {M : Type 1} → statement M
 ciede2000-two-spec =
     tie.close
     (tie.spec
-    (λ c κs. search needs)
-    (λ c κs. search needs)
+    (λ c κs. c .pre .1 .0 .1)
+    (λ c κs. c .before .pre .1 .1)
     hue-figures-requires
     hue-figures-requires-2
-    (λ c κs. search needs)
-    (λ c κs. search needs)
-    (λ c κs. search needs)
-    (λ c κs. search needs)
+    (λ c κs. tt)
+    (λ c κs. c .before .before .before .before .before .pre .0 .1)
+    (λ c κs. tt)
+    (λ c κs. c .before .before .before .before .before .before .before .pre .0 .1)
     finish-requires
     finish-requires-2
     returns)
