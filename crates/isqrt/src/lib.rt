@@ -1,6 +1,8 @@
 // The integer square root: the largest whole number whose square is at most n.
 // An estimate from the count of leading zeros is tested exactly. Where it is not the root, the root
 // is found bit by bit.
+#![tactic(auto)]
+
 ghost use Rattle.std.specs.Prelude.{◌≡◌, ◌+◌, ◌*◌, ◌^◌, ◌≤◌, ◌<◌, eqb};
 ghost use Rattle.isqrt.specs.Root.{root_of};
 ghost use Rattle.isqrt.specs.Inner.{RootBits};

@@ -1,4 +1,3 @@
--- `isqrt::root_bits` meets its contract: setting the lowest bit leaves the length of every number but 0. Assumes nothing.
 use mathlib.Core.Path.{◌≡◌}
 use Prim.Native.Nat.{ℕ, suc, ◌+◌, ◌-◌, ◌*◌, ◌%◌, ◌^◌, ◌≤◌, ◌<◌}
 use native.Mathlib.Decide.{dec_le}
@@ -7,8 +6,7 @@ use lib.Bits.{bit_or, or_add_and, and_mask}
 use lib.Pow.{pow_mono, pow-lt}
 use lib.Count.{count_leading_zeros, leading_le, leading_top}
 use Rattle.isqrt.specs.Inner.{RootBits}
-use Rattle.isqrt.proofs.root_bits.Statement.{statement}
-use Rattle.isqrt.proofs.root_bits.Tie as tie
+use Rattle.isqrt.proofs.root_bits.Goals as goal
 
 -- j is the place of the highest bit of n with its lowest bit set, and z zeros lead it
 record Highest (n z j : ℕ) : Type 0 where
@@ -34,11 +32,11 @@ root-bits {n} {z} {j} h r half =
         either (yes g) = omega (arith, half)
         either (no g) = absurd (omega (arith, h.low, pow-lt {i = 2 * k} {j = j} (omega (arith, g))))
 
-returns : tie.Need-returns
+pub overflow_sub-result : goal.overflow_sub-result
+overflow_sub-result c = omega (arith, leading_le 64 (bit_or c.args.n 1))
+
+pub returns : goal.returns
 returns c =
     let h = (highest c.args.n c.ranges.n.fits).1 in
     let rest : count_leading_zeros 64 (bit_or c.args.n 1) + suc _ ≡ 64 = h.rest in
     root-bits h _ (omega arith)
-
-pub root-bits-spec : {M : Type 1} → statement M
-root-bits-spec = tie.close (tie.spec (λ c. omega (arith, leading_le 64 (bit_or c.args.n 1))) returns)

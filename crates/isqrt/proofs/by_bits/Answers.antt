@@ -1,5 +1,3 @@
--- `isqrt::by_bits` meets its contract. The loop's invariant: the root lies between the bits found and these and 2 ^ left together.
--- The measure is the number of bits left. Assumes nothing.
 use mathlib.Core.Path.{◌≡◌, sym, ap, ◌∙◌}
 use Prim.Native.Nat.{ℕ, zero, suc, ◌+◌, ◌-◌, ◌*◌, ◌%◌, ◌^◌, ◌≤◌, ◌<◌}
 use native.Mathlib.Nat.{mul-le-mul, one-mul, two-pow-succ}
@@ -9,15 +7,8 @@ use lib.Pow.{pow_pos, pow_mono, pow-add, shl_exact}
 use Rattle.isqrt.specs.Root.{root_of}
 use Rattle.isqrt.specs.Inner.{RootBits}
 use Rattle.isqrt.proofs.RootLaws.{root-unique}
-use Rattle.isqrt.proofs.by_bits.Statement.{statement}
-use Rattle.isqrt.proofs.by_bits.Tie as tie
-
--- the root of n is at least root, and below root + 2 ^ left; no more rounds are left than there were bits to find
-record Between (n bits root left : ℕ) : Type 0 where
-  low : root * root ≤ n
-  high : n < (root + 2 ^ left) * (root + 2 ^ left)
-  small : root + 2 ^ left ≤ 2 ^ 32
-  few : (left ≤ bits) × (bits ≤ 32)
+use Rattle.isqrt.proofs.by_bits.Invariants.{Between}
+use Rattle.isqrt.proofs.by_bits.Goals as goal
 
 -- `1 << k`, which the machine has as a product cut to 64 bits
 abbrev bit : ℕ → ℕ
@@ -60,44 +51,20 @@ found : {n bits root : ℕ} (left : ℕ) → Between n bits root left → left �
 found zero h none = sym (root-unique _ _ h.low h.high)
 found (suc k) h none = absurd (omega arith)
 
-abbrev invariant-loop : tie.invariant-loop
-invariant-loop n bits root₀ left₀ root left = Between n bits root left
+pub loop-left-init : goal.loop-left-init
+loop-left-init c = starts c.requires _ (omega arith)
 
-abbrev decreases-loop : tie.decreases-loop
-decreases-loop n bits root₀ left₀ root left = left
+pub overflow_add-tried : goal.overflow_add-tried
+overflow_add-tried c = omega (arith, tried-small c.loop-left.invariant (omega arith))
 
-loop-holds : tie.Need-loop-init invariant-loop decreases-loop
-loop-holds c = starts c.requires _ (omega arith)
+pub overflow_mul-tried : goal.overflow_mul-tried
+overflow_mul-tried c = let t = tried-small c.loop-left.invariant (omega arith) in omega (arith, mul-le-mul t t)
 
-add-tried : tie.Need-overflow-add-tried invariant-loop decreases-loop
-add-tried c = omega (arith, tried-small c.before.loop.invariant (omega arith))
+pub loop-left-preserved-then-tried-n : goal.loop-left-preserved-then-tried-n
+loop-left-preserved-then-tried-n c = taken c.loop-left.invariant (omega arith) (omega arith)
 
-mul-if1 : tie.Need-overflow-mul-if1 invariant-loop decreases-loop
-mul-if1 c = let t = tried-small c.before.loop.invariant (omega arith) in omega (arith, mul-le-mul t t)
+pub loop-left-preserved : goal.loop-left-preserved
+loop-left-preserved c = left_out c.loop-left.invariant (omega arith) (omega arith)
 
-loop-again : tie.Need-loop-preserved invariant-loop decreases-loop
-loop-again c = taken c.before.before.loop.invariant (omega arith) (omega arith)
-
-loop-again-2 : tie.Need-loop-preserved-2 invariant-loop decreases-loop
-loop-again-2 c = left_out c.before.before.loop.invariant (omega arith) (omega arith)
-
-returns : tie.Need-returns invariant-loop decreases-loop
-returns c = found _ c.before.loop.invariant (omega arith)
-
-pub by-bits-spec : {M : Type 1} → statement M
-by-bits-spec =
-    tie.close
-    (tie.spec
-    invariant-loop
-    decreases-loop
-    loop-holds
-    (λ c. omega arith)
-    (λ c. omega arith)
-    (λ c. omega arith)
-    add-tried
-    mul-if1
-    (λ c. omega arith)
-    loop-again
-    (λ c. omega arith)
-    loop-again-2
-    returns)
+pub returns : goal.returns
+returns c = found _ c.loop-left.invariant (omega arith)
