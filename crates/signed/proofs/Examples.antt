@@ -1,7 +1,7 @@
 -- The definitions at numbers, by computation.
 use mathlib.Core.Path.{◌≡◌, refl}
 use mathlib.Core.Bool.{true, false}
-use lib.IntN.{ℤ, pos, negsuc, nat_abs, ◌*ℤ◌, ◌-ℤ◌}
+use lib.IntN.{pos, negsuc, nat_abs, ◌*ℤ◌, ◌-ℤ◌}
 use lib.Signed.{lt_z, quot_z}
 use Rattle.signed.specs.Inner.{int}
 

@@ -1,5 +1,7 @@
 // Whole numbers with a sign: a sign and a size, of which each function says what it is in ℤ.
 // Sums and products of such numbers are proved as unsigned ones are, by the bounds of their sizes.
+#![tactic(auto)]
+
 ghost use Rattle.std.specs.Prelude.{◌≡◌, cond, ◌+◌, ◌*◌, ◌/◌, ◌^◌, ◌<◌, eqb, pos, neg_ℤ, nat_abs, ◌+ℤ◌, ◌-ℤ◌, ◌*ℤ◌};
 ghost use Rattle.std.specs.Int.Signed.{lt_z, quot_z};
 ghost use Rattle.std.specs.Int.{w32};

@@ -1,3 +1,5 @@
+-- `isqrt::by_bits` meets its contract. The loop's invariant: the root lies between the bits found and these and 2 ^ left together.
+-- The measure is the number of bits left. Assumes nothing.
 use mathlib.Core.Path.{◌≡◌, sym, ap, ◌∙◌}
 use Prim.Native.Nat.{ℕ, zero, suc, ◌+◌, ◌-◌, ◌*◌, ◌%◌, ◌^◌, ◌≤◌, ◌<◌}
 use native.Mathlib.Nat.{mul-le-mul, one-mul, two-pow-succ}

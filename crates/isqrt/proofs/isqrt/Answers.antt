@@ -1,3 +1,4 @@
+-- `isqrt::isqrt` meets its contract. Assumes nothing.
 use mathlib.Core.Path.{sym, ◌∙◌}
 use borrow.Author.Tests.{eqb-true}
 use Rattle.isqrt.proofs.RootLaws.{root-square-le, root-lt-next}

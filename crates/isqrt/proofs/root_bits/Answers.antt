@@ -1,3 +1,4 @@
+-- `isqrt::root_bits` meets its contract: setting the lowest bit leaves the length of every number but 0. Assumes nothing.
 use mathlib.Core.Path.{◌≡◌}
 use Prim.Native.Nat.{ℕ, suc, ◌+◌, ◌-◌, ◌*◌, ◌%◌, ◌^◌, ◌≤◌, ◌<◌}
 use native.Mathlib.Decide.{dec_le}
