@@ -1,5 +1,7 @@
 // Chroma, the seventh-power ratio, and the primed coordinates and their chroma: steps 1 to 3.
 // a and b are whole numbers of 10^-4, chroma, a' and b' of 10^-7, ratios of 10^-9.
+#![tactic(auto)]
+
 ghost use Rattle.std.specs.Prelude.{◌≡◌, ◌≤◌};
 ghost use Rattle.signed.specs.Inner.{int, Within};
 ghost use Rattle.chroma.specs.Chroma.{sum_of_squares, chroma_of, power_of, hypotenuse_of, ratio_of, primed_a, in_ten_millionths, primed_chroma};

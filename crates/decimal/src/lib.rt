@@ -10,7 +10,7 @@ ghost use Rattle.decimal.specs.Inner.{digit_count, StartsAt, DigitAt, DigitsRead
 use signed::Int;
 
 // A run of digits: the number that they make, how many they are, and where the bytes go on.
-#[derive(Drop)]
+#[derive(Clone, Copy)]
 pub struct Digits {
     pub value: u64,
     pub count: usize,
@@ -18,7 +18,7 @@ pub struct Digits {
 }
 
 // A decimal in 1/10,000, and where the bytes go on.
-#[derive(Drop)]
+#[derive(Clone, Copy)]
 pub enum Decimal {
     Value(Int, usize),
     Missing,

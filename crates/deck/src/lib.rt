@@ -29,7 +29,7 @@ pub const MOST_SWATCHES: usize = 4096;
 
 // What a search answers: the number of matches, the refusal's number, or that the list is too short
 // (refusal 8), with the number of entries that it needs.
-#[derive(Drop)]
+#[derive(Clone, Copy)]
 pub enum Found {
     Count(usize),
     Refused(u8),
@@ -37,7 +37,7 @@ pub enum Found {
 }
 
 // What a search asks of each swatch, in 1/10,000: worked out once.
-#[derive(Drop)]
+#[derive(Clone, Copy)]
 struct PreparedQuery {
     weights: FixedWeights,
     reading: Prepared,
@@ -47,7 +47,7 @@ struct PreparedQuery {
 
 // How a deck lies in its lanes: whether its size is in order, how far apart two swatches stand, and
 // their number.
-#[derive(Drop)]
+#[derive(Clone, Copy)]
 struct Layout {
     sized: bool,
     stride: usize,
@@ -55,7 +55,7 @@ struct Layout {
 }
 
 // The places from `from` up to `to`, which is not one of them.
-#[derive(Drop)]
+#[derive(Clone, Copy)]
 struct Window {
     from: usize,
     to: usize,

@@ -33,7 +33,7 @@ const SWATCH: usize = 12;
 
 // What a write or a read answers: the length of the file or the number of swatches, or the refusal's
 // number.
-#[derive(Drop)]
+#[derive(Clone, Copy)]
 pub enum Transfer {
     Done(usize),
     Refused(u8),

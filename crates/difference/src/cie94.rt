@@ -14,14 +14,14 @@ use sample::FixedWeights;
 use signed::Int;
 
 // Whose constants the weighting functions take.
-#[derive(Drop)]
+#[derive(Clone, Copy)]
 pub enum Application {
     GraphicArts,
     Textiles,
 }
 
 // Whether sample 1 is a standard. Without one the difference is the same with the samples exchanged.
-#[derive(Drop)]
+#[derive(Clone, Copy)]
 pub enum Comparison {
     WithStandard,
     WithoutStandard,

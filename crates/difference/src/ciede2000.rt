@@ -17,7 +17,7 @@ use sample::FixedWeights;
 use signed::Int;
 
 // T, SL, SC, SH and R.
-#[derive(Drop)]
+#[derive(Clone, Copy)]
 pub struct Terms {
     pub t: u64,
     pub sl: u64,
@@ -27,7 +27,7 @@ pub struct Terms {
 }
 
 // What steps 5 to 8 give: both hues, which way round, the hue difference H and the mean hue.
-#[derive(Drop)]
+#[derive(Clone, Copy)]
 pub struct Hues {
     pub h1: u64,
     pub h2: u64,
@@ -37,7 +37,7 @@ pub struct Hues {
 }
 
 // What steps 2 and 3 give of a pair: Z(C1 + C2) and both points.
-#[derive(Drop)]
+#[derive(Clone, Copy)]
 struct Points {
     z: u64,
     p: Coordinates,
@@ -45,7 +45,7 @@ struct Points {
 }
 
 // What steps 9 to 12 give.
-#[derive(Drop)]
+#[derive(Clone, Copy)]
 struct Finished {
     terms: Terms,
     parts: SignedParts,
@@ -53,7 +53,7 @@ struct Finished {
 }
 
 // CIEDE2000 and every figure on the way.
-#[derive(Drop)]
+#[derive(Clone, Copy)]
 pub struct Intermediates {
     pub c1: u64,
     pub p1: Coordinates,
@@ -252,7 +252,7 @@ pub fn ciede2000_once(w: FixedWeights, s: Prepared, t: Prepared) -> u64
 }
 
 // The differences of two pairs, in millionths.
-#[derive(Drop)]
+#[derive(Clone, Copy)]
 pub struct Two {
     pub first: u64,
     pub second: u64,

@@ -9,7 +9,7 @@ use sample::FixedWeights;
 use signed::Int;
 
 // The signed lightness, chroma and hue parts.
-#[derive(Drop)]
+#[derive(Clone, Copy)]
 pub struct SignedParts {
     pub l: Int,
     pub c: Int,

@@ -6,7 +6,7 @@ use sample::Lab;
 use signed::Int;
 
 // A sample with its chroma and its quadrant, so that a search works them out once.
-#[derive(Drop)]
+#[derive(Clone, Copy)]
 pub struct Prepared {
     pub l: u64,
     pub a: Int,
@@ -32,7 +32,7 @@ pub fn prepare(s: Lab) -> Prepared
 }
 
 // A point of the plane of a and b, in 10^-7.
-#[derive(Drop)]
+#[derive(Clone, Copy)]
 pub struct Coordinates {
     pub a: Int,
     pub b: Int,

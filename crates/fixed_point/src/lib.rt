@@ -16,7 +16,7 @@ use sample::{FixedWeights, Lab};
 use signed::Int;
 
 // A measured colour in CIELAB.
-#[derive(Drop)]
+#[derive(Clone, Copy)]
 pub struct Reading {
     pub l: f32,
     pub a: f32,
@@ -24,7 +24,7 @@ pub struct Reading {
 }
 
 // The weights kL, kC and kH of the lightness, chroma and hue parts.
-#[derive(Drop)]
+#[derive(Clone, Copy)]
 pub struct Weights {
     pub l: f32,
     pub c: f32,

@@ -9,7 +9,7 @@ ghost use Rattle.hue_difference.specs.Inner.{Primed, SideIs};
 use signed::Int;
 
 // What a and b in 1/10,000 say exactly of two hues.
-#[derive(Drop)]
+#[derive(Clone, Copy)]
 pub struct Side {
     pub far: bool, // more than half a turn apart
     pub none: bool, // H is 0

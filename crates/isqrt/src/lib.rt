@@ -16,7 +16,7 @@ fn root_bits(n: u64) -> u32
 }
 
 // start, rise and bend: the curve start + rise × t - bend × t², for t from 0 to 1.
-#[derive(Drop)]
+#[derive(Clone, Copy)]
 struct Parabola(u64, u64, u64);
 
 // 2^24 × √((part + t) / 32), at most 4 millionths off, for parts from 8 to 31.

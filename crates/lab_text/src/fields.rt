@@ -14,7 +14,7 @@ pub const WORDS: usize = 4;
 // ---- a word that is a number
 
 // Whether a word is digits and nothing else, and the number that it starts with.
-#[derive(Drop)]
+#[derive(Clone, Copy)]
 pub struct Number {
     pub right: bool,
     pub value: u64,
@@ -33,7 +33,7 @@ pub fn read_number(word: &[u8], most: usize) -> Number
 }
 
 // Whether a word is a SAMPLE_ID, and which.
-#[derive(Drop)]
+#[derive(Clone, Copy)]
 pub struct Code {
     pub right: bool,
     pub code: u32,
@@ -57,7 +57,7 @@ fn read_code(word: &[u8]) -> Code
 }
 
 // Whether a word is a decimal and nothing else, and the one that it starts with, in 1/10,000.
-#[derive(Drop)]
+#[derive(Clone, Copy)]
 pub struct Value {
     pub right: bool,
     pub value: i32,
@@ -82,7 +82,7 @@ fn read_value(word: &[u8]) -> Value
 // ---- the words of a line
 
 // Where the second, third and fourth word start, and whether there are four.
-#[derive(Drop)]
+#[derive(Clone, Copy)]
 pub struct Words {
     pub four: bool,
     pub second: usize,

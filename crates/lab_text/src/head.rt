@@ -7,7 +7,7 @@ ghost use Rattle.lab_text.specs.Inner.{NamesRead, SetsRead, HeadRead};
 use super::fields;
 
 // At which place of a row each field stands.
-#[derive(Drop)]
+#[derive(Clone, Copy)]
 pub struct Order {
     pub code: usize,
     pub l: usize,
@@ -16,7 +16,7 @@ pub struct Order {
 }
 
 // Line 2: whether it is the four names, and their order.
-#[derive(Drop)]
+#[derive(Clone, Copy)]
 pub struct Names {
     pub right: bool,
     pub order: Order,
@@ -51,7 +51,7 @@ fn read_names(line: &[u8]) -> Names
 }
 
 // Line 4: whether it is NUMBER_OF_SETS with its number, and the number.
-#[derive(Drop)]
+#[derive(Clone, Copy)]
 pub struct Sets {
     pub right: bool,
     pub count: usize,
@@ -80,7 +80,7 @@ fn line_is(text: &[u8], at: usize, keyword: &[u8]) -> bool
 }
 
 // Whether the five lines are right, what they say, and where the rows start.
-#[derive(Drop)]
+#[derive(Clone, Copy)]
 pub struct Head {
     pub right: bool,
     pub order: Order,

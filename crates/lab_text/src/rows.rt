@@ -7,7 +7,7 @@ use super::head::Order;
 use swatches::Swatch;
 
 // What a line was read as: whether it is a row, and its swatch.
-#[derive(Drop)]
+#[derive(Clone, Copy)]
 pub struct Row {
     pub right: bool,
     pub swatch: Swatch,

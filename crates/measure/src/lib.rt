@@ -23,14 +23,14 @@ mod many;
 pub use many::ciede2000_many;
 
 // The difference, or the number of the refusal.
-#[derive(Drop)]
+#[derive(Clone, Copy)]
 pub enum Difference {
     Of(f64),
     Refused(u8),
 }
 
 // The difference and whether it is within the tolerance.
-#[derive(Drop)]
+#[derive(Clone, Copy)]
 pub struct Judgement {
     pub difference: Difference,
     pub within: bool,
@@ -38,7 +38,7 @@ pub struct Judgement {
 
 // The refusal's number, 0 for none, and the 23 figures of the working of CIEDE2000, in whole numbers:
 // `figures_row` has their order and units. A refusal has 23 zeros.
-#[derive(Drop)]
+#[derive(Clone, Copy)]
 pub struct FigureAnswer {
     pub refusal: u8,
     pub row: [i64; 23],

@@ -14,20 +14,20 @@ use fixed_point::{Reading, Weights};
 use sample::FixedWeights;
 
 // A standard and its sample.
-#[derive(Drop)]
+#[derive(Clone, Copy)]
 struct Colours {
     s: Reading,
     t: Reading,
 }
 
 // A pair's refusal, 0 for none, and its difference, 0 for a refused one.
-#[derive(Drop)]
+#[derive(Clone, Copy)]
 struct PairAnswer {
     refusal: u8,
     difference: f64,
 }
 
-#[derive(Drop)]
+#[derive(Clone, Copy)]
 struct TwoAnswers {
     first: PairAnswer,
     second: PairAnswer,

@@ -9,7 +9,7 @@ ghost use Rattle.near.specs.Inner.{Worked, IsNeighbourhood, Most};
 use sample::{FixedWeights, Lab};
 
 // What depends on the query alone, so that a search works it out once.
-#[derive(Drop)]
+#[derive(Clone, Copy)]
 pub struct Neighbourhood {
     pub reading: Lab,
     pub tolerance: u64,

@@ -7,7 +7,7 @@ use libc::{STDIN_FILENO, STDOUT_FILENO};
 use text::State;
 
 // The state after a piece of the input, and whether its answers were written.
-#[derive(Drop)]
+#[derive(Clone, Copy)]
 struct Answered {
     state: State,
     written: bool,

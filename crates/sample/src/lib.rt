@@ -1,5 +1,7 @@
 // Samples, weights and colours in whole numbers of 1/10,000: their limits, and the order of refusals.
 // No floats: what reads floats, decks or text comes here with whole numbers.
+#![tactic(auto)]
+
 ghost use Rattle.std.specs.Prelude.{◌≡◌, not, eqb};
 ghost use Rattle.sample.specs.Sample.{lightness_out, opponent_out, colour_refusal, colour_sample};
 ghost use Rattle.sample.specs.Refusals.{first_of};
@@ -15,7 +17,7 @@ const LIGHTNESS_MOST: u64 = 1000000;
 const OPPONENT_MOST: u64 = 1280000;
 
 // A sample within the limits.
-#[derive(Drop)]
+#[derive(Clone, Copy)]
 pub struct Lab {
     pub l: u64,
     pub a: Int,
@@ -23,7 +25,7 @@ pub struct Lab {
 }
 
 // The weights kL, kC and kH.
-#[derive(Drop)]
+#[derive(Clone, Copy)]
 pub struct FixedWeights {
     pub l: u64,
     pub c: u64,
@@ -31,7 +33,7 @@ pub struct FixedWeights {
 }
 
 // A colour as a deck or a text gives it: any whole numbers.
-#[derive(Drop)]
+#[derive(Clone, Copy)]
 pub struct FixedColour {
     pub l: Int,
     pub a: Int,

@@ -9,7 +9,7 @@ ghost use Rattle.std.proofs.Common.{of_z, to_z};
 ghost use Rattle.signed.specs.Inner.{int, Exactly, Within, Apart, Size};
 
 // n, or -n where neg is true. Zero may carry either sign.
-#[derive(Drop)]
+#[derive(Clone, Copy)]
 pub struct Int {
     pub neg: bool,
     pub n: u64,

@@ -10,7 +10,7 @@ use swatches::Swatch;
 const LINE_MOST: usize = 96;
 
 // A line: the first len bytes.
-#[derive(Drop)]
+#[derive(Clone, Copy)]
 pub struct Line {
     pub text: [u8; LINE_MOST],
     pub len: usize,

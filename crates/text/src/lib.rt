@@ -23,14 +23,14 @@ const LINE_MOST: usize = 96;
 const ANSWER_MOST: usize = 138;
 
 // L, a and b, and where the bytes go on.
-#[derive(Drop)]
+#[derive(Clone, Copy)]
 enum ColourRead {
     Value(FixedColour, usize),
     Missing,
 }
 
 // Sample 1 and sample 2.
-#[derive(Drop)]
+#[derive(Clone, Copy)]
 enum ParsedLine {
     Pair(FixedColour, FixedColour),
     Malformed,
@@ -82,7 +82,7 @@ fn put_refused(out: &mut [u8], at: usize, n: u8) -> usize
 }
 
 // The figures of a line in millionths.
-#[derive(Drop)]
+#[derive(Clone, Copy)]
 struct Six {
     d76: Int,
     d94: Int,
@@ -162,7 +162,7 @@ fn put_pair(
 }
 
 // The line that the input has not ended yet: its first len bytes. It is too long where len is above LINE_MOST.
-#[derive(Drop)]
+#[derive(Clone, Copy)]
 pub struct State {
     pub line: [u8; LINE_MOST],
     pub len: usize,
@@ -205,7 +205,7 @@ fn push(line: &mut [u8; LINE_MOST], len: usize, b: u8) -> usize
 }
 
 // How far a piece of the input was read, and how many bytes were written.
-#[derive(Drop)]
+#[derive(Clone, Copy)]
 pub struct Progress {
     pub state: State,
     pub read: usize,
@@ -284,7 +284,7 @@ pub fn step(state: State, chunk: &[u8], out: &mut [u8]) -> Progress
 }
 
 // The answer of the last line, which no newline ended.
-#[derive(Drop)]
+#[derive(Clone, Copy)]
 pub struct Ending {
     pub text: [u8; ANSWER_MOST],
     pub len: usize,
