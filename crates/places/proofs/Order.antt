@@ -57,4 +57,4 @@ le_z-lt a b c h k =
 
 -- what is read back of a number of 32 bits that was stored
 pub read_back : {z y : ℤ} → mag z < 2 ^ hbits w32 → z ≡ y → to_z w32 (of_z w32 z) ≡ y
-read_back h e = to_z-of_z (sfits_of h) ∙ e
+read_back h e = to_z-of_z {w = w32} (sfits_of h) ∙ e

@@ -1,6 +1,8 @@
 // What a search of a deck needs that does not depend on colour: the entries of a lane, the first
 // place whose value reaches a bound, and the copy of the found places. A lane is a slice, of which
 // every stride-th number counts.
+#![tactic(auto)]
+
 ghost use Rattle.std.specs.Prelude.{◌≡◌, true, ◌++◌, ◌*◌, ◌≤◌, ◌<◌, length, take, drop};
 ghost use Rattle.places.specs.Places.{rising};
 ghost use Rattle.places.specs.Inner.{lane_at, Spans, Split};
