@@ -113,7 +113,7 @@ signed-length z = bytes-length 4 (of_z w32 z)
 pub signed_back : (z : ℤ) → mag z < 2 ^ hbits w32 → signed_of (signed_bytes z) ≡ z
 unfolding signed_bytes signed_of
 signed_back z h =
-    ap (to_z w32) (unsigned_bytes 4 (of_z w32 z) (Fits-of_z {w = w32} {z = z} (sfits_of h)).fits) ∙ to_z-of_z (sfits_of h)
+    ap (to_z w32) (unsigned_bytes 4 (of_z w32 z) (Fits-of_z {w = w32} {z = z} (sfits_of h)).fits) ∙ to_z-of_z {w = w32} (sfits_of h)
 
 pub bytes_back : (bs : List ℕ) (at : ℕ) → Bytes bs → at + 4 ≤ length bs
     → signed_bytes (signed_of (field at 4 bs)) ≡ field at 4 bs

@@ -1,5 +1,7 @@
 // Bytes in a lent buffer: texts and whole numbers written one after the other, and read where they
 // stand. Whole numbers stand low byte first, signed ones in two's complement.
+#![tactic(auto)]
+
 ghost use Rattle.std.specs.Prelude.{◌≡◌, [], ◌∷◌, ◌+◌, ◌≤◌, ◌<◌, length, take};
 ghost use Rattle.buffer.specs.Numbers.{bytes_of, unsigned_of, signed_bytes, signed_of, field, same};
 ghost use Rattle.buffer.specs.Writing.{Written};

@@ -1,0 +1,10 @@
+-- `buffer::put_u32` meets its contract. Assumes nothing.
+use Rattle.buffer.specs.Numbers.{bytes_of}
+use Rattle.buffer.proofs.WritingLaws.{written-append}
+use Rattle.buffer.proofs.put_u32.Goals as goal
+
+pub returns : goal.returns
+unfolding bytes_of
+returns c =
+    written-append c.put_byte-second.ensures
+    (written-append c.put_byte-third.ensures (written-append c.put_byte-fourth.ensures c.put_byte.ensures))
