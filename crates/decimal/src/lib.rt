@@ -1,5 +1,7 @@
 // Decimals as text, in ASCII: read into whole numbers of 1/10,000, and written from whole numbers of
 // 10^-places.
+#![tactic(auto)]
+
 ghost use Rattle.std.specs.Prelude.{◌≡◌, [], ◌∷◌, ◌++◌, ◌+◌, ◌^◌, ◌≤◌, ◌<◌, length, drop};
 ghost use Rattle.signed.specs.Inner.{int};
 ghost use Rattle.buffer.specs.Writing.{Written};
