@@ -1,6 +1,6 @@
 -- Two entries next to each other, from wherever they were read: what `between` asks of them, and that it gives the
 -- Gaussian. Assumes nothing.
-use mathlib.Core.Path.{◌≡◌, sym, ◌∙◌}
+use mathlib.Core.Path.{◌≡◌}
 use Prim.Native.Nat.{ℕ, ◌+◌, ◌-◌, ◌*◌, ◌/◌, ◌%◌, ◌≤◌, ◌<◌}
 use native.Mathlib.Omega.{arith}
 use Rattle.gaussian.specs.Gaussian.{gaussian_entry, gaussian_between, gaussian_of}

@@ -1,5 +1,7 @@
 // Step 11: the Gaussian exp(-v) of the distance between the mean hue and 275 degrees (01's "bell"),
 // by a table with an entry for each tenth of a degree, and straight lines between the entries.
+#![tactic(auto)]
+
 ghost use Rattle.std.specs.Prelude.{◌≡◌, ◌-◌, ◌*◌, ◌/◌, ◌≤◌, ◌<◌};
 ghost use Rattle.gaussian.specs.Inner.{GaussianTable, IsPart};
 ghost use Rattle.gaussian.specs.Gaussian.{gaussian_of};

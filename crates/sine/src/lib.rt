@@ -1,6 +1,8 @@
 // Step 4: the sine of any angle, in whole numbers: a table of the sines of 0 to 90 degrees, one for each tenth of a degree,
 // and what stands between its entries.
 // An angle is a whole number of 10^-6 degree, a sine of 10^-9.
+#![tactic(auto)]
+
 ghost use Rattle.std.specs.Prelude.{◌≡◌, ◌≤◌, ◌<◌, ◌^◌};
 ghost use Rattle.signed.specs.Inner.{Within};
 ghost use Rattle.sine.specs.Inner.{SineTable, Entry};

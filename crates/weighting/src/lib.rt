@@ -1,5 +1,7 @@
 // Steps 9 to 11: the hue term T, the weighting functions SL, SC and SH of a pair of samples, and the rotation term R.
 // Angles are whole numbers of 10^-6 degree, lightness of 1/10,000, chroma of 10^-7, the results of 10^-9.
+#![tactic(auto)]
+
 ghost use Rattle.std.specs.Prelude.{◌≡◌, ◌+◌, ◌*◌, ◌/◌, ◌^◌, ◌≤◌, ◌<◌, pos, ◌+ℤ◌, ◌-ℤ◌};
 ghost use Rattle.signed.specs.Inner.{Within};
 ghost use Rattle.sine.specs.Inner.{SineTable};

@@ -4,12 +4,8 @@ use mathlib.Core.Path.{refl}
 use Rattle.sine.specs.Sine.{unit, pi, alternating, series, sine_entry}
 use Rattle.sine.proofs.Tabulate.{tabulate}
 use Rattle.sine.proofs.Results.{sine-table-of}
-use Rattle.sine.proofs.sine_table.Statement.{statement}
-use Rattle.sine.proofs.sine_table.Tie as tie
+use Rattle.sine.proofs.sine_table.Goals as goal
 
-returns : tie.Need-returns
+pub returns : goal.returns
 unfolding unit pi alternating series sine_entry tabulate
 returns c = sine-table-of _ refl
-
-pub sine-table-spec : {M : Type 1} → statement M
-sine-table-spec = tie.close (tie.spec returns)
