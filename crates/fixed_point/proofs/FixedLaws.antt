@@ -131,6 +131,14 @@ at-least-half m e t = twice (m * up e) (down e) (either-le (1 * down e) (m * up 
 finite-within : (low high x : Float) → T (finite low) → T (finite high) → T (within low high x) → T (finite x)
 unfolding le
 finite-within low high (fin s m e) p q t = tt
+finite-within nan high nan p q t = elim p [ ]
+finite-within (inf _) high nan p q t = elim p [ ]
+finite-within (fin s m e) nan nan p q t = elim q [ ]
+finite-within (fin s m e) (inf _) nan p q t = elim q [ ]
+finite-within nan high (inf _) p q t = elim p [ ]
+finite-within (inf _) high (inf _) p q t = elim p [ ]
+finite-within (fin s m e) nan (inf _) p q t = elim q [ ]
+finite-within (fin s m e) (inf _) (inf _) p q t = elim q [ ]
 finite-within (fin s m e) (fin u n d) nan p q t = t
 finite-within (fin s m e) (fin u n d) (inf true) p q t = and_l (le (fin s m e) (inf true)) (le (inf true) (fin u n d)) t
 finite-within (fin s m e) (fin u n d) (inf false) p q t = and_r (le (fin s m e) (inf false)) (le (inf false) (fin u n d)) t

@@ -1,5 +1,7 @@
 // Readings, weights and tolerances as floats: which are accepted, and the whole number of 1/10,000
 // that each accepted float is rounded to.
+#![tactic(auto)]
+
 ghost use Rattle.std.specs.Prelude.{◌≡◌, ◌*◌, ◌<◌, false, not, ◌||◌};
 ghost use Rattle.std.specs.Float.Ieee.Exact.{HasValue};
 ghost use Rattle.std.specs.Float.Ieee.Positive.{num, den};
