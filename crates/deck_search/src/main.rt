@@ -1,58 +1,60 @@
 // Searches of decks, with what each finds: a deck of greys, an empty one, one of 300 swatches with
 // several tolerances, weights and lists, and decks that are refused.
+#![tactic(auto)]
+
 ghost use Rattle.std.specs.Prelude.{◌≡◌, length};
 
 use deck::Found;
 use fixed_point::{Reading, Weights};
+use std::io;
 
-fn print_place(place: u16) {
-    io::write_all(1, b" ");
-    io::print_decimal(1, place as u64);
+fn print_place(rt: &impl Print, place: u16) -> io::Result<()> {
+    print!(rt; " {place}")
 }
 
 // The places that a search listed.
-fn print_places(places: &[u16], n: usize) {
+fn print_places(rt: &impl Print, places: &[u16], n: usize) -> io::Result<()> {
     let mut i = 0;
     while i < places.len() {
         if i == n {
-            return;
+            return Ok(());
         }
-        print_place(places[i]);
+        print_place(rt, places[i])?;
         i += 1;
     }
+    Ok(())
 }
 
 // The first entry of the caller's list, which a refusal leaves as it was.
-fn print_first(places: &[u16]) {
+fn print_first(rt: &impl Print, places: &[u16]) -> io::Result<()> {
     if 0 < places.len() {
-        io::write_all(1, b", the list begins with");
-        print_place(places[0]);
+        print!(rt; ", the list begins with")?;
+        print_place(rt, places[0])?;
     }
+    Ok(())
 }
 
-fn report(found: Found, places: &[u16]) {
+fn report(rt: &impl Print, found: Found, places: &[u16]) -> io::Result<()> {
     match found {
         Found::Count(n) => {
-            io::print_decimal(1, n as u64);
-            io::write_all(1, b" found:");
-            print_places(places, n);
+            print!(rt; "{n} found:")?;
+            print_places(rt, places, n)?;
         }
         Found::Refused(number) => {
-            io::write_all(1, b"refused ");
-            io::print_decimal(1, number as u64);
-            print_first(places);
+            print!(rt; "refused {number}")?;
+            print_first(rt, places)?;
         }
         Found::Short(n) => {
-            io::write_all(1, b"refused 8, needs ");
-            io::print_decimal(1, n as u64);
-            print_first(places);
+            print!(rt; "refused 8, needs {n}")?;
+            print_first(rt, places)?;
         }
     }
-    io::write_all(1, b"\n");
+    println!(rt;)
 }
 
 fn case(
-    title: &[u8],
+    rt: &impl Print,
+    title: &str,
     l: &[i32],
     a: &[i32],
     b: &[i32],
@@ -60,10 +62,10 @@ fn case(
     weights: Weights,
     tolerance: f32,
     places: &mut [u16],
-) {
-    io::write_all(1, title);
+) -> io::Result<()> {
+    print!(rt; "{title}")?;
     let found = deck::search(l, a, b, reading, weights, tolerance, places);
-    report(found, places);
+    report(rt, found, places)
 }
 
 fn ones() -> Weights {
@@ -83,12 +85,13 @@ fn grey50() -> Reading {
 }
 
 // The deck of greys, and what is refused of it.
-fn grey_cases() {
+fn grey_cases(rt: &impl Print) -> io::Result<()> {
     let l = [400000, 450000, 500000, 500000, 600000];
     let zeros = [0; 5];
     let mut places = [65535; 5];
     case(
-        b"grey deck, tolerance 5: ",
+        rt,
+        "grey deck, tolerance 5: ",
         &l,
         &zeros,
         &zeros,
@@ -96,10 +99,11 @@ fn grey_cases() {
         ones(),
         5.0,
         &mut places,
-    );
+    )?;
     let mut two = [65535; 2];
     case(
-        b"grey deck, room for 2: ",
+        rt,
+        "grey deck, room for 2: ",
         &l,
         &zeros,
         &zeros,
@@ -107,17 +111,18 @@ fn grey_cases() {
         ones(),
         5.0,
         &mut two,
-    );
+    )
 }
 
-fn refused_cases() {
+fn refused_cases(rt: &impl Print) -> io::Result<()> {
     let l = [400000, 450000, 500000];
     let falling = [400000, 500000, 450000];
     let zeros = [0; 3];
     let fewer = [0; 2];
     let mut two = [65535; 2];
     case(
-        b"falling deck: ",
+        rt,
+        "falling deck: ",
         &falling,
         &zeros,
         &zeros,
@@ -125,9 +130,10 @@ fn refused_cases() {
         ones(),
         5.0,
         &mut two,
-    );
+    )?;
     case(
-        b"unequal columns: ",
+        rt,
+        "unequal columns: ",
         &l,
         &zeros,
         &fewer,
@@ -135,9 +141,10 @@ fn refused_cases() {
         ones(),
         5.0,
         &mut two,
-    );
+    )?;
     case(
-        b"falling deck, tolerance 101: ",
+        rt,
+        "falling deck, tolerance 101: ",
         &falling,
         &zeros,
         &zeros,
@@ -145,14 +152,15 @@ fn refused_cases() {
         ones(),
         101.0,
         &mut two,
-    );
+    )
 }
 
-fn empty_case(column: &[i32]) {
+fn empty_case(rt: &impl Print, column: &[i32]) -> io::Result<()> {
     let none = &column[..0];
     let mut two = [65535; 2];
     case(
-        b"empty deck: ",
+        rt,
+        "empty deck: ",
         none,
         none,
         none,
@@ -160,7 +168,7 @@ fn empty_case(column: &[i32]) {
         ones(),
         5.0,
         &mut two,
-    );
+    )
 }
 
 // a or b of a generated swatch: whole units from -20 to 20.
@@ -194,7 +202,7 @@ fn place150() -> Reading {
 }
 
 // The generated deck at several tolerances and weights.
-fn generated_cases(l: &[i32], a: &[i32], b: &[i32]) {
+fn generated_cases(rt: &impl Print, l: &[i32], a: &[i32], b: &[i32]) -> io::Result<()> {
     let reading = place150();
     let heavy = Weights {
         l: 2.0,
@@ -202,9 +210,20 @@ fn generated_cases(l: &[i32], a: &[i32], b: &[i32]) {
         h: 0.5,
     };
     let mut places = [65535; 300];
-    case(b"tolerance 0: ", l, a, b, reading, ones(), 0.0, &mut places);
     case(
-        b"tolerance 12: ",
+        rt,
+        "tolerance 0: ",
+        l,
+        a,
+        b,
+        reading,
+        ones(),
+        0.0,
+        &mut places,
+    )?;
+    case(
+        rt,
+        "tolerance 12: ",
         l,
         a,
         b,
@@ -212,9 +231,10 @@ fn generated_cases(l: &[i32], a: &[i32], b: &[i32]) {
         ones(),
         12.0,
         &mut places,
-    );
+    )?;
     case(
-        b"tolerance 12, kL 2, kH 0.5: ",
+        rt,
+        "tolerance 12, kL 2, kH 0.5: ",
         l,
         a,
         b,
@@ -222,9 +242,10 @@ fn generated_cases(l: &[i32], a: &[i32], b: &[i32]) {
         heavy,
         12.0,
         &mut places,
-    );
+    )?;
     case(
-        b"tolerance 100: ",
+        rt,
+        "tolerance 100: ",
         l,
         a,
         b,
@@ -232,15 +253,16 @@ fn generated_cases(l: &[i32], a: &[i32], b: &[i32]) {
         ones(),
         100.0,
         &mut places,
-    );
+    )
 }
 
 // As many places as the list has room for, and one more.
-fn room_cases(l: &[i32], a: &[i32], b: &[i32]) {
+fn room_cases(rt: &impl Print, l: &[i32], a: &[i32], b: &[i32]) -> io::Result<()> {
     let reading = place150();
     let mut exact = [65535; 18];
     case(
-        b"tolerance 12, room for 18: ",
+        rt,
+        "tolerance 12, room for 18: ",
         l,
         a,
         b,
@@ -248,10 +270,11 @@ fn room_cases(l: &[i32], a: &[i32], b: &[i32]) {
         ones(),
         12.0,
         &mut exact,
-    );
+    )?;
     let mut short = [65535; 17];
     case(
-        b"tolerance 12, room for 17: ",
+        rt,
+        "tolerance 12, room for 17: ",
         l,
         a,
         b,
@@ -259,17 +282,17 @@ fn room_cases(l: &[i32], a: &[i32], b: &[i32]) {
         ones(),
         12.0,
         &mut short,
-    );
+    )
 }
 
-fn main() {
-    grey_cases();
-    refused_cases();
+fn main(rt: HostRuntime) -> io::Result<()> {
+    grey_cases(&rt)?;
+    refused_cases(&rt)?;
     let mut l = [0; 300];
     let mut a = [0; 300];
     let mut b = [0; 300];
-    empty_case(&l);
+    empty_case(&rt, &l)?;
     generate(&mut l, &mut a, &mut b);
-    generated_cases(&l, &a, &b);
-    room_cases(&l, &a, &b);
+    generated_cases(&rt, &l, &a, &b)?;
+    room_cases(&rt, &l, &a, &b)
 }

@@ -1,5 +1,7 @@
-// The integer square root as C functions, for `rt staticlib isqrt_c`: tests/checks/roots.rs calls them.
+// The integer square root as C functions, for the static library isqrt_c: tests/checks/roots.rs calls them.
 // They are no part of the C interface.
+#![tactic(auto)]
+
 ghost use Rattle.std.specs.Prelude.{◌≡◌, ◌⊎◌};
 ghost use Rattle.isqrt.specs.Root.{root_of};
 

@@ -1,10 +1,18 @@
 // Imports the lab's text from standard input to a list of records, and writes for some readings the
 // codes of the swatches within a tolerance, or the refusal, as the search of the list finds them.
+#![tactic(auto)]
+
+ghost use Rattle.std.specs.Prelude.{◌≤◌, length};
+
 use deck::{Found, MOST_SWATCHES};
 use deck_file::Transfer;
 use fixed_point::{Reading, Weights};
-use libc::{STDIN_FILENO, STDOUT_FILENO};
+use std::io;
+use std::io::Read;
 use swatches::Swatch;
+
+// Room for the text.
+const TEXT_MOST: usize = 65536;
 
 // A place as an index.
 fn index(place: u16) -> usize {
@@ -12,36 +20,41 @@ fn index(place: u16) -> usize {
 }
 
 // The codes at the first n places.
-fn print_codes(list: [Swatch; MOST_SWATCHES], places: &[u16], n: usize) {
+fn print_codes(
+    rt: &impl Print,
+    list: [Swatch; MOST_SWATCHES],
+    places: &[u16],
+    n: usize,
+) -> io::Result<()> {
     let mut k = 0;
     while k < places.len() {
         if k == n {
-            return;
+            return Ok(());
         }
         let place = index(places[k]);
         if place < MOST_SWATCHES {
             let s = list[place];
-            io::write_all(STDOUT_FILENO, b" ");
-            io::print_decimal(STDOUT_FILENO, s.code as u64);
+            print!(rt; " {}", s.code)?;
         }
         k += 1;
     }
+    Ok(())
 }
 
 // A number after some words.
-fn print_number(words: &[u8], n: usize) {
-    io::write_all(STDOUT_FILENO, words);
-    io::print_decimal(STDOUT_FILENO, n as u64);
+fn print_number(rt: &impl Print, words: &str, n: usize) -> io::Result<()> {
+    print!(rt; "{words}{n}")
 }
 
 // A search of the first n records for those within a tolerance of a reading.
 fn case(
+    rt: &impl Print,
     list: [Swatch; MOST_SWATCHES],
     n: usize,
     reading: Reading,
     tolerance: f32,
     places: &mut [u16],
-) {
+) -> io::Result<()> {
     let ones = Weights {
         l: 1.0,
         c: 1.0,
@@ -50,18 +63,18 @@ fn case(
     let found = records::search_list(list, n, reading, ones, tolerance, places);
     match found {
         Found::Count(count) => {
-            print_number(b"found ", count);
-            io::write_all(STDOUT_FILENO, b":");
-            print_codes(list, places, count);
+            print_number(rt, "found ", count)?;
+            print!(rt; ":")?;
+            print_codes(rt, list, places, count)?;
         }
-        Found::Refused(k) => print_number(b"refused ", k as usize),
-        Found::Short(needed) => print_number(b"refused 8, needs ", needed),
+        Found::Refused(k) => print_number(rt, "refused ", k as usize)?,
+        Found::Short(needed) => print_number(rt, "refused 8, needs ", needed)?,
     }
-    io::write_all(STDOUT_FILENO, b"\n");
+    println!(rt;)
 }
 
 // The same list for several readings, tolerances and rooms.
-fn cases(list: [Swatch; MOST_SWATCHES], n: usize) {
+fn cases(rt: &impl Print, list: [Swatch; MOST_SWATCHES], n: usize) -> io::Result<()> {
     let standard = Reading {
         l: 52.5,
         a: -3.25,
@@ -73,29 +86,45 @@ fn cases(list: [Swatch; MOST_SWATCHES], n: usize) {
         b: 0.0,
     };
     let mut places = [65535; MOST_SWATCHES];
-    case(list, n, standard, 0.0, &mut places);
-    case(list, n, standard, 12.0, &mut places);
-    case(list, n, standard, 100.0, &mut places);
-    case(list, 0, standard, 100.0, &mut places);
-    case(list, n, outside, 12.0, &mut places);
-    case(list, n, standard, 100.5, &mut places);
+    case(rt, list, n, standard, 0.0, &mut places)?;
+    case(rt, list, n, standard, 12.0, &mut places)?;
+    case(rt, list, n, standard, 100.0, &mut places)?;
+    case(rt, list, 0, standard, 100.0, &mut places)?;
+    case(rt, list, n, outside, 12.0, &mut places)?;
+    case(rt, list, n, standard, 100.5, &mut places)?;
     let mut two = [65535; 2];
-    case(list, n, standard, 12.0, &mut two);
+    case(rt, list, n, standard, 12.0, &mut two)?;
     // past its rows the list is black: L falls, unless the last row is black too
-    case(list, MOST_SWATCHES, standard, 12.0, &mut places);
+    case(rt, list, MOST_SWATCHES, standard, 12.0, &mut places)
 }
 
-fn main() {
-    let mut text = io::large_buffer();
-    let n = io::read_full(STDIN_FILENO, &mut text);
+// Reads until the buffer is full or the input ends: how many bytes it read. A read that fails counts
+// as the end.
+fn read_full<R: Read>(input: &mut R, buffer: &mut [u8]) -> usize
+    ensures { result ≤ length buffer.new }
+{
+    let mut done = 0;
+    while done < buffer.len() {
+        match input.read(&mut buffer[done..]) {
+            Ok(0) => return done,
+            Ok(n) => done += n,
+            Err(_) => return done,
+        }
+    }
+    done
+}
+
+fn main(rt: HostRuntime) -> io::Result<()> {
+    let mut text = [0u8; TEXT_MOST];
+    let n = read_full(&mut rt.stdin(), &mut text);
     let imported = records::import_list(&text[..n]);
     let list = imported.records;
     let answer = imported.answer;
     match answer {
-        Transfer::Done(count) => cases(list, count),
+        Transfer::Done(count) => cases(&rt, list, count),
         Transfer::Refused(k) => {
-            print_number(b"refused ", k as usize);
-            io::write_all(STDOUT_FILENO, b"\n");
+            print_number(&rt, "refused ", k as usize)?;
+            println!(rt;)
         }
     }
 }

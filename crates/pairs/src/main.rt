@@ -1,22 +1,18 @@
 // The text program: reads pairs of samples from standard input, a line each, and writes a
 // header and for each line its figures or its refusal. Every byte that it writes is text's.
-ghost use Rattle.std.specs.Prelude.{◌≡◌, true};
+#![tactic(auto)]
+
+ghost use Rattle.std.specs.Prelude.{◌≡◌, IfOk};
 ghost use Rattle.text.specs.Stream.{held_after, state_held};
 
-use libc::{STDIN_FILENO, STDOUT_FILENO};
+use std::io;
+use std::io::{Error, ErrorKind, Read, Write};
 use text::State;
 
-// The state after a piece of the input, and whether its answers were written.
-#[derive(Clone, Copy)]
-struct Answered {
-    state: State,
-    written: bool,
-}
-
-// Answers a piece of the input. The buffer is written each time that it is full.
-fn answer(start: State, chunk: &[u8], out: &mut [u8]) -> Answered
-    ensures { result.written ≡ true
-        → state_held result.state ≡ held_after (state_held start) chunk.now }
+// Answers a piece of the input: the state after it, once its answers are written. The buffer is
+// written each time that it is full.
+fn answer<W: Write>(output: &mut W, start: State, chunk: &[u8], out: &mut [u8]) -> io::Result<State>
+    ensures { IfOk result (λ state. state_held state ≡ held_after (state_held start) chunk.now) }
 {
     let mut state = start;
     let mut from = 0;
@@ -24,65 +20,42 @@ fn answer(start: State, chunk: &[u8], out: &mut [u8]) -> Answered
         let p = text::step(state, &chunk[from..], out);
         state = p.state;
         let n = p.written;
-        if !io::write_all(STDOUT_FILENO, &out[..n]) {
-            return Answered {
-                state,
-                written: false,
-            };
-        }
+        output.write_all(&out[..n])?;
         if p.read == 0 {
-            return Answered {
-                state,
-                written: false,
-            };
+            return Err(Error::from(ErrorKind::WriteZero));
         }
         from += p.read;
     }
-    Answered {
-        state,
-        written: true,
-    }
+    Ok(state)
 }
 
 // The answer of a last line that no newline ends.
-fn answer_last(state: State) {
+fn answer_last<W: Write>(output: &mut W, state: State) -> io::Result<()> {
     let last = text::finish(state);
     let bytes = last.text;
     let n = last.len;
-    io::write_all(STDOUT_FILENO, &bytes[..n]);
+    output.write_all(&bytes[..n])
 }
 
 // Reads to the end of the input. A read or a write that fails ends it. A proved loop has to end,
-// and nothing says that the input does: so the turns are counted down from a number that no run
+// and nothing says that the input does: so the turns are counted, up to a number that no run
 // uses up.
-fn answer_all() {
-    let mut chunk = io::large_buffer();
-    let mut out = io::large_buffer();
+fn answer_all<R: Read, W: Write>(input: &mut R, output: &mut W) -> io::Result<()> {
+    let mut chunk = [0u8; 65536];
+    let mut out = [0u8; 65536];
     let mut state = text::start();
-    let mut turns = u64::MAX;
-    while 0 < turns {
-        let got = libc::read(STDIN_FILENO, &mut chunk);
-        if got < 0 {
-            return;
-        }
+    for _ in 0..u64::MAX {
+        let got = input.read(&mut chunk)?;
         if got == 0 {
-            answer_last(state);
-            return;
+            return answer_last(output, state);
         }
-        let n = io::count(got, &chunk);
-        let answered = answer(state, &chunk[..n], &mut out);
-        if answered.written {
-            state = answered.state;
-        } else {
-            return;
-        }
-        turns -= 1;
+        state = answer(output, state, &chunk[..got], &mut out)?;
     }
+    Err(Error::from(ErrorKind::TimedOut))
 }
 
-fn main() {
-    let header = text::header();
-    if io::write_all(STDOUT_FILENO, &header) {
-        answer_all();
-    }
+fn main(rt: HostRuntime) -> io::Result<()> {
+    let mut output = rt.stdout();
+    output.write_all(&text::header())?;
+    answer_all(&mut rt.stdin(), &mut output)
 }

@@ -1,8 +1,11 @@
 // All pairs of Table I of the CIEDE2000 test data (source document 001), both ways round: our
 // difference to four decimals beside the published one.
-ghost use Rattle.std.specs.Prelude.{◌≡◌, ◌≤◌, ◌<◌, length};
+#![tactic(auto)]
+
+ghost use Rattle.std.specs.Prelude.{◌≡◌, ◌≤◌, ◌<◌, length, IfOk};
 
 use fixed_point::{Reading, Weights};
+use std::io;
 
 // L, a and b of sample 1, then of sample 2.
 const PAIRS: [f32; 204] = [
@@ -35,19 +38,21 @@ const PUBLISHED: [u64; 34] = [
     18731, 18645, 20373, 14146, 14441, 15381, 6377, 9082,
 ];
 
-fn digit(n: u64) {
-    io::print_decimal(1, n % 10);
+// The last decimal digit.
+fn digit(n: u64) -> u64 {
+    n % 10
 }
 
 // A number of units of the fourth decimal, written with its point.
-fn print_units(n: u64) {
-    io::print_decimal(1, n / 10000);
-    io::write_all(1, b".");
-    digit(n / 1000);
-    digit(n / 100);
-    digit(n / 10);
-    digit(n);
-    io::write_all(1, b" ");
+fn print_units(rt: &impl Print, n: u64) -> io::Result<()> {
+    print!(rt;
+        "{}.{}{}{}{} ",
+        n / 10000,
+        digit(n / 1000),
+        digit(n / 100),
+        digit(n / 10),
+        digit(n)
+    )
 }
 
 // Millionths to the nearest unit of the fourth decimal.
@@ -60,16 +65,15 @@ fn apart(x: u64, y: u64) -> u64 {
 }
 
 // One line: the difference, the published one, and how far they are apart. 1 if at most one unit.
-fn line(millionths: u64, published: u64) -> usize
-    ensures { result ≤ 1 }
+fn line(rt: &impl Print, millionths: u64, published: u64) -> io::Result<usize>
+    ensures { IfOk result (λ within. within ≤ 1) }
 {
     let found = units(millionths);
     let off = apart(found, published);
-    print_units(found);
-    print_units(published);
-    io::print_decimal(1, off);
-    io::write_all(1, b"\n");
-    if off <= 1 { 1 } else { 0 }
+    print_units(rt, found)?;
+    print_units(rt, published)?;
+    println!(rt; "{off}")?;
+    Ok(if off <= 1 { 1 } else { 0 })
 }
 
 // CIEDE2000 of two readings with all weights 1, in millionths.
@@ -95,31 +99,30 @@ fn reading(pairs: &[f32; 204], at: usize) -> Reading
 }
 
 // Both directions of the pair k: how many of the two are within one unit.
-fn pair(pairs: &[f32; 204], k: usize, published: u64) -> usize
+fn pair(rt: &impl Print, pairs: &[f32; 204], k: usize, published: u64) -> io::Result<usize>
     requires pairs_len { length pairs.now ≡ 204 }
     requires k_bound { k < 34 }
-    ensures { result ≤ 2 }
+    ensures { IfOk result (λ within. within ≤ 2) }
 {
     let s = reading(pairs, 6 * k);
     let t = reading(pairs, 6 * k + 3);
-    io::print_decimal(1, (k + 1) as u64);
-    io::write_all(1, b" there ");
-    let there = line(difference(s, t), published);
-    io::print_decimal(1, (k + 1) as u64);
-    io::write_all(1, b" back ");
-    let back = line(difference(t, s), published);
-    there + back
+    let there_millionths = difference(s, t);
+    let back_millionths = difference(t, s);
+    print!(rt; "{} there ", k + 1)?;
+    let there = line(rt, there_millionths, published)?;
+    print!(rt; "{} back ", k + 1)?;
+    let back = line(rt, back_millionths, published)?;
+    Ok(there + back)
 }
 
-fn main() {
+fn main(rt: HostRuntime) -> io::Result<()> {
     let pairs = PAIRS;
     let published = PUBLISHED;
     let mut within: usize = 0;
     let mut k: usize = 0;
     while k < 34 {
-        within += pair(&pairs, k, published[k]);
+        within += pair(&rt, &pairs, k, published[k])?;
         k += 1;
     }
-    io::print_decimal(1, within as u64);
-    io::write_all(1, b" of 68 within one unit of the fourth decimal\n");
+    println!(rt; "{within} of 68 within one unit of the fourth decimal")
 }
