@@ -135,8 +135,8 @@ fn lanes_refusal(s: Layout, l: &[i32], a: &[i32], b: &[i32]) -> u8
 // Refusal 6 or 7 of a deck, or 0.
 pub fn deck_refusal(l: &[i32], a: &[i32], b: &[i32]) -> u8
     ensures value { result ≡ deck_refusal (columns l.now a.now b.now) }
-    ensures columns { (l.now ≡ l.now)
-        × ((a.now ≡ a.now) × (b.now ≡ b.now)) }
+    ensures columns { (l.exit.now ≡ l.entry.now)
+        × ((a.exit.now ≡ a.entry.now) × (b.exit.now ≡ b.entry.now)) }
 {
     lanes_refusal(columns_layout(l, a, b), l, a, b)
 }
@@ -378,8 +378,8 @@ pub fn search(
     ensures fact { let deck = columns l.now a.now b.now in
         let query = asked reading weights tolerance in
         Searches query deck places.old places.new result }
-    ensures columns { (l.now ≡ l.now)
-        × ((a.now ≡ a.now) × (b.now ≡ b.now)) }
+    ensures columns { (l.exit.now ≡ l.entry.now)
+        × ((a.exit.now ≡ a.entry.now) × (b.exit.now ≡ b.entry.now)) }
 {
     let s = columns_layout(l, a, b);
     search_lanes(s, l, a, b, reading, weights, tolerance, places)

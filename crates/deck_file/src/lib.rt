@@ -101,8 +101,8 @@ fn write_refusal(l: &[i32], a: &[i32], b: &[i32], room: usize) -> u8
 pub fn write(l: &[i32], a: &[i32], b: &[i32], file: &mut [u8]) -> Transfer
     ensures fact { let deck = columns l.now a.now b.now in
         Writes deck file.old file.new result }
-    ensures columns { (l.now ≡ l.now)
-        × ((a.now ≡ a.now) × (b.now ≡ b.now)) }
+    ensures columns { (l.exit.now ≡ l.entry.now)
+        × ((a.exit.now ≡ a.entry.now) × (b.exit.now ≡ b.entry.now)) }
 {
     let refusal = write_refusal(l, a, b, file.len());
     if refusal != 0 {
@@ -223,7 +223,7 @@ pub fn read(file: &[u8], l: &mut [i32], a: &mut [i32], b: &mut [i32]) -> Transfe
     ensures fact { let old = lent l.old a.old b.old in
         let new = lent l.new a.new b.new in
         Reads file.now old new result }
-    ensures file { file.now ≡ file.now }
+    ensures file { file.exit.now ≡ file.entry.now }
 {
     let refusal = read_refusal(file, l.len(), a.len(), b.len());
     if refusal != 0 {

@@ -96,7 +96,7 @@ pub fn import(
     ensures fact { let old = lent code.old l.old a.old b.old in
         let new = lent code.new l.new a.new b.new in
         Imports text.now old new result }
-    ensures text { text.now ≡ text.now }
+    ensures text { text.exit.now ≡ text.entry.now }
 {
     let d = read(text);
     let n = d.count;

@@ -191,8 +191,8 @@ pub extern "C" fn lq_ciede2000_many(
         let old = results differences.old refusals.old in
         let new = results differences.new refusals.new in
         Compares standards.now samples.now w old new pairs.new }
-    ensures colours { (standards.now ≡ standards.now)
-        × (samples.now ≡ samples.now) }
+    ensures colours { (standards.exit.now ≡ standards.entry.now)
+        × (samples.exit.now ≡ samples.entry.now) }
 {
     let w = Weights {
         l: kl,
@@ -343,8 +343,8 @@ pub extern "C" fn lq_search(
     ensures search { let deck = columns l.now a.now b.now in
         let query = asked (reading rl ra rb) (weights kl kc kh) tolerance in
         HandsSearch query deck places.old places.new result count.new }
-    ensures columns { (l.now ≡ l.now)
-        × ((a.now ≡ a.now) × (b.now ≡ b.now)) }
+    ensures columns { (l.exit.now ≡ l.entry.now)
+        × ((a.exit.now ≡ a.entry.now) × (b.exit.now ≡ b.entry.now)) }
 {
     let r = Reading {
         l: rl,
@@ -392,8 +392,8 @@ pub extern "C" fn lq_deck_write(
 ) -> u32
     ensures write { let deck = columns l.now a.now b.now in
         HandsWrite deck file.old file.new result length.new }
-    ensures columns { (l.now ≡ l.now)
-        × ((a.now ≡ a.now) × (b.now ≡ b.now)) }
+    ensures columns { (l.exit.now ≡ l.entry.now)
+        × ((a.exit.now ≡ a.entry.now) × (b.exit.now ≡ b.entry.now)) }
 {
     let written = deck_file::write(l, a, b, file);
     *length = transfer_size(written);
@@ -412,7 +412,7 @@ pub extern "C" fn lq_deck_read(
     ensures read { let old = lent l.old a.old b.old in
         let new = lent l.new a.new b.new in
         HandsRead file.now old new result count.new }
-    ensures file { file.now ≡ file.now }
+    ensures file { file.exit.now ≡ file.entry.now }
 {
     let found = deck_file::read(file, l, a, b);
     *count = transfer_size(found);
@@ -432,7 +432,7 @@ pub extern "C" fn lq_import(
     ensures import { let old = lentColumns code.old l.old a.old b.old in
         let new = lentColumns code.new l.new a.new b.new in
         HandsImport text.now old new result count.new }
-    ensures text { text.now ≡ text.now }
+    ensures text { text.exit.now ≡ text.entry.now }
 {
     let imported = lab_text::import(text, code, l, a, b);
     *count = transfer_size(imported);

@@ -202,8 +202,8 @@ pub fn ciede2000_many(
     ensures answers { let old = results differences.old refusals.old in
         let new = results differences.new refusals.new in
         Compares standards.now samples.now weights old new result }
-    ensures colours { (standards.now ≡ standards.now)
-        × (samples.now ≡ samples.now) }
+    ensures colours { (standards.exit.now ≡ standards.entry.now)
+        × (samples.exit.now ≡ samples.entry.now) }
 {
     let colours = lesser(standards.len() / 3, samples.len() / 3);
     let room = lesser(differences.len(), refusals.len());

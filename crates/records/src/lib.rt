@@ -61,7 +61,7 @@ fn fill(rows: [Swatch; MOST_SWATCHES], n: usize, records: &mut [Swatch])
 // Imports the lab's text to the front of the caller's records. `Imports` says all, for every call.
 pub fn import(text: &[u8], records: &mut [Swatch]) -> Transfer
     ensures imports { Imports text.now records.old records.new result }
-    ensures text { text.now ≡ text.now }
+    ensures text { text.exit.now ≡ text.entry.now }
 {
     let t = rows_of(text, records.len());
     fill(t.rows, t.count, records);
@@ -179,7 +179,7 @@ pub fn search(
     ensures fact { let deck = deck_of records.now in
         let query = asked reading weights tolerance in
         Searches query deck places.old places.new result }
-    ensures records { records.now ≡ records.now }
+    ensures records { records.exit.now ≡ records.entry.now }
 {
     let n = records.len();
     let list = taken(records, at_most(n));

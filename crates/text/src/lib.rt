@@ -276,7 +276,7 @@ pub fn step(state: State, chunk: &[u8], out: &mut [u8]) -> Progress
     ensures piece { Stepped (state_held state) chunk.now out.old out.new result }
     ensures whole { (input : List ℕ) → state_held state ≡ state_of input
         → Follows input (take result.read chunk.now) out.new result }
-    ensures lent { chunk.now ≡ chunk.now }
+    ensures lent { chunk.exit.now ≡ chunk.entry.now }
 {
     let sines = sine::sine_table();
     let gaussians = gaussian::gaussian_table();
