@@ -1,5 +1,7 @@
 // The hue of a point (a, b): its quadrant, the tenth of a degree found by halving from an estimate, and the rest.
 // A hue is a whole number of 10^-6 degree.
+#![tactic(auto)]
+
 ghost use Rattle.std.specs.Prelude.{◌≡◌, true, ◌+◌, ◌*◌, ◌^◌, ◌≤◌, ◌<◌};
 ghost use Rattle.signed.specs.Inner.{int};
 ghost use Rattle.sine.specs.Inner.{SineTable};

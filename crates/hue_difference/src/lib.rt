@@ -1,5 +1,7 @@
 // The hues of two samples against each other: which way round the hue circle, decided exactly, the hue difference H with its
 // sign, and the mean hue. Steps 6, 7 and 8; sample 1 is (a1, b1), sample 2 is (a2, b2).
+#![tactic(auto)]
+
 ghost use Rattle.std.specs.Prelude.{◌≡◌, false, cond, not, ◌+◌, ◌*◌, ◌^◌, ◌≤◌, ◌<◌};
 ghost use Rattle.signed.specs.Inner.{int, Within};
 ghost use Rattle.hue.specs.Hue.{quadrant_of};

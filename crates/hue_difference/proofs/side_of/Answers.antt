@@ -11,9 +11,7 @@ use lib.Signed.{lt_z}
 use Rattle.hue.specs.Hue.{quadrant_of}
 use Rattle.hue.proofs.HueLaws.{quadrant-grey}
 use Rattle.hue_difference.specs.HueDifference.{cross_of, later_in, second_later, first_later, far_of, opposite_of, no_hue_of, hue_negative}
-use borrow.Author.Rules.{rules}
-use Rattle.hue_difference.proofs.side_of.Statement.{statement}
-use Rattle.hue_difference.proofs.side_of.Tie as tie
+use Rattle.hue_difference.proofs.side_of.Goals as goal
 
 module _ (a1 b1 a2 b2 : ℤ) {q1 q2 : ℕ} {x : ℤ} (e1 : q1 ≡ quadrant_of a1 b1) (e2 : q2 ≡ quadrant_of a2 b2) (ex : x ≡ cross_of a1 b1 a2 b2) where
   opposite-by :
@@ -37,35 +35,15 @@ module _ (a1 b1 a2 b2 : ℤ) {q1 q2 : ℕ} {x : ℤ} (e1 : q1 ≡ quadrant_of a1
     unfolding hue_negative second_later
     minus-by eo em = em ∙ rw (eo, es, ep, en, ex, e1, e2)
 
-cross-requires : tie.Need-cross-requires
-cross-requires c κs =
-    omega (arith, mul-le-mul c.requires.0.0 c.requires.1.0.1, mul-le-mul c.requires.1.0.0 c.requires.0.1)
+pub cross-x-requires : goal.cross-x-requires
+cross-x-requires c =
+    omega (arith, mul-le-mul c.requires.n_bound.0 c.requires.n_bound_2.1, mul-le-mul c.requires.n_bound_2.0 c.requires.n_bound.1)
 
-returns : tie.Need-returns
+pub returns : goal.returns
 returns c =
-    let s = c.before.before.before.before.before.before.before in
-    let x = c.before.before.before.before.before.before.cross.ensures.is in
-    let p = c.before.before.before.before.before.is_positive.ensures in
-    let n = c.before.before.before.before.is_negative.ensures in
-    let z = c.before.before.before.is_zero.ensures in
-    let q1 = s.requires.1.1.0 in
-    let q2 = s.requires.1.1.1 in
-    let o = opposite-by _ _ _ _ q1 q2 x z in
+    let o = opposite-by _ _ _ _ c.requires.q1_value c.requires.q2_value c.cross-x.ensures.is c.is_zero-zero.ensures in
     record {
-      far_is = far-by _ _ _ _ q1 q2 x p n c.before.before.later.ensures c.before.later2.ensures;
-      none_is = none-by _ _ _ _ q1 q2 x z o;
-      negative_is = minus-by _ _ _ _ q1 q2 x p n c.before.before.later.ensures o c.is-minus.ensures;
+      far_is = far-by _ _ _ _ c.requires.q1_value c.requires.q2_value c.cross-x.ensures.is c.is_positive-positive.ensures c.is_negative-negative.ensures c.later-second.ensures c.later-first.ensures;
+      none_is = none-by _ _ _ _ c.requires.q1_value c.requires.q2_value c.cross-x.ensures.is c.is_zero-zero.ensures o;
+      negative_is = minus-by _ _ _ _ c.requires.q1_value c.requires.q2_value c.cross-x.ensures.is c.is_positive-positive.ensures c.is_negative-negative.ensures c.later-second.ensures o c.is_minus.ensures;
     }
-
-pub side-of-spec : {M : Type 1} → statement M
-side-of-spec =
-    tie.close
-    (tie.spec
-    cross-requires
-    (λ c κs. search rules)
-    (λ c κs. search rules)
-    (λ c κs. search rules)
-    (λ c κs. search rules)
-    (λ c κs. search rules)
-    (λ c κs. search rules)
-    returns)

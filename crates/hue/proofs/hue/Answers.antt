@@ -2,7 +2,7 @@
 -- a or b is not 0 the chroma is not 0.
 -- Assumes nothing.
 use mathlib.Core.Path.{◌≡◌, refl, sym, ◌∙◌}
-use mathlib.Core.Bool.{Bool, true, false, cond}
+use mathlib.Core.Bool.{Bool, false, cond}
 use Prim.Native.Nat.{ℕ, zero, suc, ◌+◌, ◌*◌, ◌%◌, ◌≤◌, ◌<◌}
 use native.Mathlib.Nat.{le_trans, le_of_eq}
 use native.Mathlib.Omega.{arith}
@@ -15,9 +15,7 @@ use Rattle.signed.proofs.SignedLaws.{int-size}
 use Rattle.sine.proofs.SineLaws.{cond-le}
 use Rattle.hue.specs.Hue.{grey, quadrant_of, turned_x, turned_y, angle_of, hue_in, hue_of}
 use Rattle.hue.proofs.HueLaws.{quadrant-le, quadrant-grey, quadrant_of-none, hue-grey, hue-coloured}
-use borrow.Author.Rules.{rules}
-use Rattle.hue.proofs.hue.Statement.{statement}
-use Rattle.hue.proofs.hue.Tie as tie
+use Rattle.hue.proofs.hue.Goals as goal
 
 not-grey : (a b : ℤ) {q : ℕ} → q ≡ quadrant_of a b → (q ≡ 4 → ⊥) → grey a b ≡ false
 not-grey a b e h = quadrant-grey a b ∙ ne_eqb (quadrant_of a b) 4 (λ f. h (e ∙ f))
@@ -37,43 +35,27 @@ chroma-pos a b zero e h k l =
     absurd (h (e ∙ quadrant_of-none (int a) (int b) (omega (arith, int-size a)) (omega (arith, int-size b))))
 chroma-pos a b (suc n) e h k l = omega arith
 
--- what `angle` asks besides the requires of `hue`
-asked : (c : tie.Else1) → (c.before.quadrant.result < 4) × (0 < c.before.before.args.chroma)
-asked c =
-    let s = c.before.before in (
-      omega (arith, quadrant-le (int s.args.a) (int s.args.b)),
-      chroma-pos s.args.a s.args.b s.args.chroma c.before.quadrant.ensures c.if1.false s.requires.1.0.0 s.requires.1.0.1,
+pub returns-then-q-eq-GREY : goal.returns-then-q-eq-GREY
+returns-then-q-eq-GREY c = sym (hue-grey _ _ _ (quadrant-grey _ _ ∙ eq-eqb _ _ (sym c.quadrant-q.ensures ∙ c.if-q-eq-GREY.true)))
+
+pub angle-requires-clause-q_bound : goal.angle-requires-clause-q_bound
+angle-requires-clause-q_bound c = omega (arith, quadrant-le (int c.args.a) (int c.args.b))
+
+pub angle-requires-clause-x_le_chroma : goal.angle-requires-clause-x_le_chroma
+angle-requires-clause-x_le_chroma c =
+    let even : Bool = eqb (c.quadrant-q.result % 2) 0 in (
+      le_trans (le_of_eq c.pick-x.ensures) (cond-le even c.requires.n_le_chroma.0 c.requires.n_le_chroma.1),
+      le_trans (le_of_eq c.pick-y.ensures) (cond-le even c.requires.n_le_chroma.1 c.requires.n_le_chroma.0),
     )
 
-returns : tie.Need-returns
-returns c = sym (hue-grey _ _ _ (quadrant-grey _ _ ∙ eq-eqb _ _ (sym c.before.quadrant.ensures ∙ c.if1.true)))
+pub angle-requires-clause-chroma_nonzero : goal.angle-requires-clause-chroma_nonzero
+angle-requires-clause-chroma_nonzero c =
+    let positive : 0 < c.args.chroma =
+    chroma-pos c.args.a c.args.b c.args.chroma c.quadrant-q.ensures c.if-q-eq-GREY.false
+    c.requires.n_le_chroma.0 c.requires.n_le_chroma.1 in
+    (positive, c.requires.chroma_bound)
 
-angle-requires : tie.Need-angle-requires
-angle-requires c κs =
-    let q = c.before.before in
-    let s = q.before.before.requires in
-    let a = s.1.0.0 in
-    let b = s.1.0.1 in
-    let even : Bool = eqb (q.before.quadrant.result % 2) 0 in
-    let x = le_trans (le_of_eq c.before.pick.ensures) (cond-le even a b) in
-    let y = le_trans (le_of_eq c.pick2.ensures) (cond-le even b a) in
-    (s.0, ((asked q).0, ((x, y), ((asked q).1, s.1.1))))
-
-returns-2 : tie.Need-returns-2
-returns-2 c =
-    let q = c.before.before.before in
-    let x = c.before.before.pick.ensures in
-    let y = c.before.pick2.ensures in
-    hue-turned _ _ _ _ q.before.quadrant.ensures q.if1.false refl
-    (c.angle.ensures ∙ (λ i. 90000000 * q.before.quadrant.result + angle_of (x i) (y i) q.before.before.args.chroma))
-
-pub hue-spec : {M : Type 1} → statement M
-hue-spec =
-    tie.close
-    (tie.spec
-    (λ c κs. search rules)
-    returns
-    (λ c κs. search rules)
-    (λ c κs. search rules)
-    angle-requires
-    returns-2)
+pub returns : goal.returns
+returns c =
+    hue-turned _ _ _ _ c.quadrant-q.ensures c.if-q-eq-GREY.false refl
+    (c.angle.ensures ∙ (λ i. 90000000 * c.quadrant-q.result + angle_of (c.pick-x.ensures i) (c.pick-y.ensures i) c.args.chroma))

@@ -9,9 +9,7 @@ use Rattle.signed.proofs.SignedLaws.{int-size}
 use Rattle.hue_difference.specs.HueDifference.{hue_size, hue_difference_of}
 use Rattle.hue_difference.specs.Inner.{Primed}
 use Rattle.hue_difference.proofs.Sizes.{hue-size-le}
-use borrow.Author.Rules.{rules}
-use Rattle.hue_difference.proofs.hue_difference.Statement.{statement}
-use Rattle.hue_difference.proofs.hue_difference.Tie as tie
+use Rattle.hue_difference.proofs.hue_difference.Goals as goal
 
 size-le :
     (a1 b1 : Int) (c1 : ℕ) (a2 b2 : Int) (c2 : ℕ) →
@@ -20,21 +18,17 @@ size-le :
 size-le a1 b1 c1 a2 b2 c2 s t =
     hue-size-le (int a1) (int b1) c1 (int a2) (int b2) c2 (rw (int-size a1, int-size b1) s) (rw (int-size a2, int-size b2) t)
 
-returns : tie.Need-returns
+pub returns-then-none : goal.returns-then-none
 unfolding hue_difference_of
-returns c = record { is = c.natural.ensures.is ∙ rw c.before.if1.true; size = omega arith }
+returns-then-none c = record { is = c.natural.ensures.is ∙ rw c.if-none.true; size = omega arith }
 
-hue_size-requires : tie.Need-hue-size-requires
-hue_size-requires c κs = (c.before.requires.0, (c.before.requires.1.0, c.before.requires.1.1 c.if1.false))
+pub hue_size-requires-clause-le_c1 : goal.hue_size-requires-clause-le_c1
+hue_size-requires-clause-le_c1 c = c.requires.le_c1 c.if-none.false
 
-returns-2 : tie.Need-returns-2
+pub returns : goal.returns
 unfolding hue_difference_of int
-returns-2 c =
-    let s = c.before.before in
+returns c =
     record {
-      is = rw (c.before.if1.false, c.hue-size.ensures);
-      size = rw c.hue-size.ensures (size-le s.args.a1 s.args.b1 _ s.args.a2 s.args.b2 _ s.requires.0 s.requires.1.0);
+      is = rw (c.if-none.false, c.hue_size.ensures);
+      size = rw c.hue_size.ensures (size-le c.args.a1 c.args.b1 _ c.args.a2 c.args.b2 _ c.requires.primed c.requires.primed_2);
     }
-
-pub hue-difference-spec : {M : Type 1} → statement M
-hue-difference-spec = tie.close (tie.spec (λ c κs. search rules) returns hue_size-requires returns-2)
