@@ -10,7 +10,7 @@ use Rattle.signed.specs.declared.Int.{Int}
 use Rattle.hue.specs.Hue.{grey}
 use Rattle.hue.proofs.HueLaws.{quadrant-grey}
 use Rattle.hue_difference.specs.HueDifference.{no_hue_of, hue_size, hue_difference_of, mean_hue_of}
-use Rattle.hue_difference.specs.Inner.{Primed, SideIs}
+use Rattle.hue_difference.specs.Inner.{SideIs}
 use Rattle.hue_difference.specs.declared.Side.{Side}
 use Rattle.sample.specs.Sample.{Sample}
 use Rattle.sample.specs.declared.FixedWeights.{FixedWeights}
@@ -23,7 +23,7 @@ use Rattle.difference.specs.Parts.{parts_of, combined}
 use Rattle.difference.specs.Pair.{Point, pair_ratio, primed_of, pair_far, pair_hue_difference, pair_mean_hue, point_hue, terms_of}
 use Rattle.difference.specs.Pair.{lightness_difference, chroma_difference}
 use Rattle.difference.specs.Ciede2000.{figures_from, terms00_of, parts00_of, figures_of, ciede2000_of}
-use Rattle.difference.specs.Inner.{prepared_sample, point_of, signed_parts, intermediate_figures, Ready, CoordinatesIn, Coloured, HueFigures}
+use Rattle.difference.specs.Inner.{prepared_sample, point_of, signed_parts, intermediate_figures, Ready, Coloured, HueFigures}
 use Rattle.difference.specs.Inner.{IsPoints, IsParts, IsFinished, IsFigures, Millionths}
 use Rattle.difference.specs.declared.ciede2000.Terms.{Terms}
 use Rattle.difference.specs.declared.ciede2000.Hues.{Hues}
