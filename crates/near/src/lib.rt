@@ -1,5 +1,7 @@
 // Which swatches are too far from a reading in a and b to be within the tolerance. It is found without
 // any root, hue or table, so that a search works few swatches in full.
+#![tactic(auto)]
+
 ghost use Rattle.std.specs.Prelude.{◌≡◌, ◌+◌, ◌≤◌, max, min};
 ghost use Rattle.sample.specs.Inner.{lab_of, SampleIn, WeightIn, WeightsIn};
 ghost use Rattle.near.specs.Inner.{extent, saturated, chroma_most, chromas_most, left_tolerance, parts_most, weight_most};

@@ -5,13 +5,12 @@ use Prim.Native.Nat.{ℕ, ◌+◌, ◌≤◌}
 use native.Mathlib.Nat.{le_trans, le_of_eq, add-le-add}
 use native.Mathlib.Omega.{arith}
 use lib.Dec.{lit≤}
-use borrow.Author.Rules.{rules}
 use Rattle.sample.specs.Sample.{Sample}
 use Rattle.sample.specs.Inner.{lab_of}
 use Rattle.near.specs.declared.Neighbourhood.{Neighbourhood}
 use Rattle.near.specs.Inner.{saturated, half_factor, chroma_most, chromas_most, Worked, Most}
-use Rattle.near.proofs.chromas_most.Statement.{statement}
-use Rattle.near.proofs.chromas_most.Tie as tie
+use Rattle.near.proofs.chromas_most.Goals as goal
+use Rattle.near.proofs.chromas_most.Goals.{After-pick-2}
 
 half_le : (b : Bool) → cond b 574 750 ≤ 750
 half_le true = lit≤ tt
@@ -38,40 +37,21 @@ sum_is n w s b f x y e half first second =
       size = add-le-add first.size (le_trans (le_of_eq second) m.size);
     }
 
-is-saturated-requires : tie.Need-is-saturated-requires
-is-saturated-requires c κs = search rules
-
-pick-requires : tie.Need-pick-requires
-pick-requires c κs = search rules
-
-chroma_most-requires : tie.Need-chroma-most-requires
-chroma_most-requires c κs = (le_trans (le_of_eq c.pick.ensures) (half_le c.before.is-saturated.result), c.before.before.requires.1)
-
-pick-requires-2 : tie.Need-pick-requires-2
-pick-requires-2 c κs = search rules
-
-both : (c : tie.After-pick2)
-    → Most (chromas_most (lab_of c.before.before.before.before.args.s) (lab_of c.before.before.before.before.args.n.reading)) 5120000000
-    (c.before.chroma-most.result + c.pick2.result)
+both : (c : After-pick-2)
+    → Most (chromas_most (lab_of c.args.s) (lab_of c.args.n.reading)) 5120000000
+    (c.chroma_most.result + c.pick-2.result)
 both c =
-    let test = c.before.before.before in
-    let start = test.before in
-    sum_is start.args.n start.requires.0 (lab_of start.args.s) test.is-saturated.result _ _ _ test.is-saturated.ensures
-    c.before.before.pick.ensures c.before.chroma-most.ensures c.pick2.ensures
+    sum_is c.args.n c.requires.worked (lab_of c.args.s) c.is_saturated-saturated.result _ _ _ c.is_saturated-saturated.ensures
+    c.pick.ensures c.chroma_most.ensures c.pick-2.ensures
 
-add-result : tie.Need-overflow-add-result
-add-result c = omega (arith, (both c).size)
+pub chroma_most-requires-clause-f_bound : goal.chroma_most-requires-clause-f_bound
+chroma_most-requires-clause-f_bound c = le_trans (le_of_eq c.pick.ensures) (half_le c.is_saturated-saturated.result)
 
-returns : tie.Need-returns
+pub chroma_most-requires-clause-sample_in : goal.chroma_most-requires-clause-sample_in
+chroma_most-requires-clause-sample_in c = c.requires.sample_in
+
+pub overflow_add-result : goal.overflow_add-result
+overflow_add-result c = omega (arith, (both c).size)
+
+pub returns : goal.returns
 returns c = both c
-
-pub chromas-most-spec : {M : Type 1} → statement M
-chromas-most-spec =
-    tie.close
-    (tie.spec
-    is-saturated-requires
-    pick-requires
-    chroma_most-requires
-    pick-requires-2
-    add-result
-    returns)
