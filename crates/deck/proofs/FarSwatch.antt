@@ -3,7 +3,7 @@ use mathlib.Core.Path.{◌≡◌, sym, ◌∙◌, subst}
 use mathlib.Core.Bool.{true, false}
 use Prim.Native.Nat.{ℕ}
 use borrow.Author.Tests.{lt-leb}
-use Rattle.sample.specs.Sample.{Sample, colour_sample}
+use Rattle.sample.specs.Sample.{colour_sample}
 use Rattle.sample.specs.Inner.{lab_of, AcceptedSample, SampleIn, WeightsIn}
 use Rattle.sample.specs.declared.Lab.{Lab}
 use Rattle.difference.specs.Verdict.{within_tolerance}

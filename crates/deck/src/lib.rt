@@ -2,6 +2,8 @@
 // columns, L, a and b, in 1/10,000, sorted by lightness, so that only a window of it is looked at.
 // The work is done on lanes: a lane is a slice, of which every stride-th number counts, and a column
 // is a lane with stride 1.
+#![tactic(auto)]
+
 ghost use Rattle.std.specs.Prelude.{◌≡◌, true, ◌+◌, ◌-◌, ◌*◌, ◌/◌, ◌≤◌, ◌<◌, pos, ◌-ℤ◌, length, take};
 ghost use Rattle.sine.specs.Inner.{SineTable};
 ghost use Rattle.gaussian.specs.Inner.{GaussianTable};
