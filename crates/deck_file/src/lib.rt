@@ -1,5 +1,7 @@
 // Deck files: a deck of swatches as bytes, to carry it from one machine to another. A file is the
 // mark FAN, a version, the number of swatches and 12 bytes a swatch; specs/Layout.antt has it whole.
+#![tactic(auto)]
+
 ghost use Rattle.std.specs.Prelude.{◌≡◌, ◌++◌, ℕ, ◌+◌, ◌*◌, ◌≤◌, ◌<◌, length, drop};
 ghost use Rattle.places.specs.Places.{every, column_of};
 ghost use Rattle.buffer.specs.Writing.{Written};
