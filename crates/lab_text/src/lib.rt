@@ -1,5 +1,7 @@
 // The colour lab's text, of CGATS form: what is refused of it, and the swatches that it lists, put in
 // rising lightness. specs/Text.antt has the form line by line.
+#![tactic(auto)]
+
 ghost use Rattle.std.specs.Prelude.{◌≡◌, cond, length};
 ghost use Rattle.deck.specs.Deck.{most_swatches};
 ghost use Rattle.lab_text.specs.Imports.{IsLabDeck, lent, Imports};

@@ -27,4 +27,4 @@ value_written end e w = written_is (ap (λ v. fixed_text 4 v ++ (end ∷ [])) e)
 -- or as what is read back of a number of 32 bits
 pub stored-written : {out last : List ℕ} {at n r : ℕ} (end : ℕ) (z : ℤ) → mag z < 2 ^ hbits w32
     → Written out at (fixed_text 4 (to_z w32 (of_z w32 z)) ++ (end ∷ [])) n last r → Written out at (fixed_text 4 z ++ (end ∷ [])) n last r
-stored-written end z h w = value_written end (to_z-of_z (sfits_of h)) w
+stored-written end z h w = value_written end (to_z-of_z {w = w32} (sfits_of h)) w

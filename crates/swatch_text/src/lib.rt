@@ -1,4 +1,6 @@
 // A swatch, or a refusal, as a line of text.
+#![tactic(auto)]
+
 ghost use Rattle.std.specs.Prelude.{◌≡◌, [], ◌∷◌, ◌++◌, ◌+◌, ◌≤◌, length, take};
 ghost use Rattle.buffer.specs.Writing.{Written};
 ghost use Rattle.decimal.specs.Writing.{fixed_text};
