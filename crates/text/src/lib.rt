@@ -1,5 +1,7 @@
 // The text program on bytes: a line of six decimals in, a line of figures or a refusal out.
 // The input comes in pieces of any size, and a line of any length costs the same memory.
+#![tactic(auto)]
+
 ghost use Rattle.std.specs.Prelude.{◌≡◌, List, [], ◌++◌, ℕ, ◌+◌, ◌≤◌, ◌<◌, length, take, drop, replicate};
 ghost use Rattle.sine.specs.Inner.{SineTable};
 ghost use Rattle.gaussian.specs.Inner.{GaussianTable};

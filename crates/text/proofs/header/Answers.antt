@@ -2,12 +2,8 @@
 use mathlib.Core.Path.{refl}
 use Rattle.text.specs.Figures.{header_text}
 use Rattle.text.specs.Stream.{held_text, text_so_far}
-use Rattle.text.proofs.header.Statement.{statement}
-use Rattle.text.proofs.header.Tie as tie
+use Rattle.text.proofs.header.Goals as goal
 
-returns : tie.Need-returns
+pub returns : goal.returns
 unfolding header_text held_text text_so_far
 returns c = refl
-
-pub header-spec : {M : Type 1} → statement M
-header-spec = tie.close (tie.spec returns)
