@@ -1,4 +1,5 @@
-/* Lahsufiq: proved colour differences. Link with the archive that `rt staticlib lahsufiq` writes.
+/* Lahsufiq: proved colour differences. Link with crates/lahsufiq/out/liblahsufiq.a, which `rt lib` in
+ * crates/lahsufiq writes.
  *
  * Every call returns a refusal number, 0 for an answer:
  *   1  L, a or b of a sample is not a number or infinite

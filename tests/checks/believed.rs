@@ -11,6 +11,7 @@
 use std::collections::{BTreeMap, HashMap, HashSet, VecDeque};
 use std::fs::read_to_string;
 use std::path::Path;
+use std::sync::OnceLock;
 
 /// The file of a crate's specs that only inner functions' contracts may cite.
 const INNER: &str = "Inner";
@@ -146,20 +147,33 @@ struct Module {
 /// The name itself, and an operator's parts.
 fn parts(name: &str) -> Vec<String> {
     let mut all = vec![name.to_string()];
-    if name.contains('_') {
-        all.extend(name.split('_').filter(|part| !part.is_empty()).map(str::to_string));
+    if name.contains('◌') {
+        all.extend(name.split('◌').filter(|part| !part.is_empty()).map(str::to_string));
     }
     all
 }
 
+/// The crates of crates.txt.
+fn crates() -> &'static [String] {
+    static CRATES: OnceLock<Vec<String>> = OnceLock::new();
+    CRATES.get_or_init(|| {
+        let lines = text_of("crates.txt");
+        let lines = lines.lines().filter(|line| !line.starts_with('#')).filter_map(|line| line.split_once(':'));
+        lines.map(|(name, _)| name.split_whitespace().next().expect("a crate's name").to_string()).collect()
+    })
+}
+
 /// Adds the names of `use PATH.{a, b as c}`, where PATH is one of the repository's modules.
 fn import(line: &str, file: &str, imports: &mut HashMap<String, Import>) {
-    let Some(path) = line.trim().strip_prefix("Rattle·") else { return };
+    let Some(path) = line.trim().strip_prefix("Rattle.") else { return };
     let path = path.trim_end_matches(';');
+    let owner = path.split('.').next().expect("a crate").to_string();
+    if !crates().contains(&owner) {
+        return; // of the toolchain's library
+    }
     let (path, list) =
         path.split_once(".{").unwrap_or_else(|| panic!("{file}: an import without a list of names: {path}"));
-    let mut steps = path.split('.');
-    let owner = steps.next().expect("a crate").trim_end_matches("·specs").to_string();
+    let mut steps = path.split('.').skip(1);
     assert!(steps.next() == Some("specs"), "{file}: an import of what is no spec: {path}");
     let rest: Vec<&str> = steps.collect();
     for entry in list.trim_end_matches('}').split(',').map(str::trim).filter(|entry| !entry.is_empty()) {
@@ -386,7 +400,7 @@ fn call(text: &[char], at: usize, file: &str) -> Call {
             }
             let end = closing(text, i);
             let clause: String = text[i + 1..end].iter().collect();
-            assert!(!clause.contains("Rattle·"), "{file}: a contract names a module by its path: import it");
+            assert!(!clause.contains("Rattle."), "{file}: a contract names a module by its path: import it");
             found.cites.extend(cited(&words(&clause), &bound));
             *(if word == "requires" { &mut found.requires } else { &mut found.ensures }) += 1;
             i = end + 1;
@@ -412,10 +426,9 @@ fn calls(file: &str, path: &str) -> Vec<Found> {
     let lines: Vec<&str> = text.lines().filter(|line| !line.trim_start().starts_with("//")).collect();
     let source = lines.join("\n");
     let mut imports = HashMap::new();
-    for statement in source.split(';') {
-        if let Some(path) = statement.trim().strip_prefix("ghost use ") {
-            import(&path.replace('\n', " "), file, &mut imports);
-        }
+    for statement in format!("\n{source}").split("\nghost use ").skip(1) {
+        let path = statement.split(';').next().expect("an import");
+        import(&path.replace('\n', " "), file, &mut imports);
     }
     let chars: Vec<char> = source.chars().collect();
     let mut found = Vec::new();
@@ -498,19 +511,14 @@ impl Specs {
 }
 
 fn main() {
-    let crates: Vec<String> = text_of("crates.txt")
-        .lines()
-        .filter(|line| !line.starts_with('#'))
-        .filter_map(|line| line.split_once(':'))
-        .map(|(name, _)| name.trim().to_string())
-        .collect();
+    let crates = crates();
     let public: Vec<String> = text_of("docs/ARCHITECTURE.md")
         .lines()
         .filter(|line| line.starts_with("| ") && line.contains("| PUBLIC: "))
         .map(|line| line.split('`').nth(1).expect("a crate's name").to_string())
         .collect();
     assert!(!public.is_empty(), "docs/ARCHITECTURE.md marks no crate PUBLIC");
-    let specs = Specs::read(&crates);
+    let specs = Specs::read(crates);
     let mut failures: Vec<String> = Vec::new();
 
     // the roots: each public call, and the proved table
@@ -590,7 +598,7 @@ fn main() {
     println!("believed: {number} public calls of {}, followed through crates/*/specs/", public.join(", "));
     println!("believed: lines of specs that they reach, that only {TABLE} reaches, and that are inner:");
     let mut total = [0; 3];
-    for owner in &crates {
+    for owner in crates {
         let Some(sums) = lines.get(owner.as_str()) else { continue };
         println!("believed: {owner:16} {:5} {:5} {:5}", sums[0], sums[1], sums[2]);
         (0..3).for_each(|i| total[i] += sums[i]);

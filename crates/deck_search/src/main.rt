@@ -14,13 +14,8 @@ fn print_place(rt: &impl Print, place: u16) -> io::Result<()> {
 
 // The places that a search listed.
 fn print_places(rt: &impl Print, places: &[u16], n: usize) -> io::Result<()> {
-    let mut i = 0;
-    while i < places.len() {
-        if i == n {
-            return Ok(());
-        }
-        print_place(rt, places[i])?;
-        i += 1;
+    for place in places.iter().take(n) {
+        print_place(rt, *place)?;
     }
     Ok(())
 }

@@ -51,13 +51,8 @@ fn write_line(rt: &impl Print, line: Line) -> io::Result<()> {
 
 // Writes the first n swatches of a list, until one cannot be written.
 fn write_list(rt: &impl Print, list: [Swatch; deck::MOST_SWATCHES], n: usize) -> io::Result<()> {
-    let mut k = 0;
-    while k < list.len() {
-        if k == n {
-            return Ok(());
-        }
-        write_line(rt, swatch_text::swatch_line(list[k]))?;
-        k += 1;
+    for s in list.iter().take(n) {
+        write_line(rt, swatch_text::swatch_line(*s))?;
     }
     Ok(())
 }

@@ -1,4 +1,4 @@
-// The C interface: the public calls as functions for `rt staticlib lahsufiq`, declared in
+// The C interface: the public calls as functions of the static library lahsufiq, declared in
 // include/lahsufiq.h. Each returns the refusal's number, 0 for an answer.
 ghost use Rattle.std.specs.Prelude.{◌≡◌};
 ghost use Rattle.fixed_point.specs.Rounding.{fixed_size};

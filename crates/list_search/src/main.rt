@@ -26,17 +26,12 @@ fn print_codes(
     places: &[u16],
     n: usize,
 ) -> io::Result<()> {
-    let mut k = 0;
-    while k < places.len() {
-        if k == n {
-            return Ok(());
-        }
-        let place = index(places[k]);
-        if place < MOST_SWATCHES {
-            let s = list[place];
+    for place in places.iter().take(n) {
+        let at = index(*place);
+        if at < MOST_SWATCHES {
+            let s = list[at];
             print!(rt; " {}", s.code)?;
         }
-        k += 1;
     }
     Ok(())
 }
