@@ -44,11 +44,12 @@ loop-i-preserved c =
     let size = few c.before.before in
     let test = sym c.matches_at.ensures in
     elim c.if-matches_at.branch [
-      then-matches_at w ↦
-        let hit = gathered-hit _ _ _ _ _ c.loop-i.invariant.2 (test ∙ w.if-matches_at.true) (omega arith) in
-        (ap length w.found-is ∙ simp length-set c.loop-i.invariant.0, omega arith, rw (w.found-is, w.n-is) hit)
-    | else-matches_at w ↦
-        (ap length w.found-is ∙ c.loop-i.invariant.0, omega arith, rw (w.found-is, w.n-is) (gathered-miss _ _ _ _ _ c.loop-i.invariant.2 (test ∙ w.if-matches_at.false))) ]
+      | then-matches_at w ↦
+          let hit = gathered-hit _ _ _ _ _ c.loop-i.invariant.2 (test ∙ w.if-matches_at.true) (omega arith) in
+          (ap length w.found-is ∙ simp length-set c.loop-i.invariant.0, omega arith, rw (w.found-is, w.n-is) hit)
+      | else-matches_at w ↦
+          (ap length w.found-is ∙ c.loop-i.invariant.0, omega arith, rw (w.found-is, w.n-is) (gathered-miss _ _ _ _ _ c.loop-i.invariant.2 (test ∙ w.if-matches_at.false)))
+    ]
 
 pub returns : goal.returns
 returns c =

@@ -17,51 +17,51 @@ returns-then-refusal-ne0-clause-file c = refl
 pub count_in-n-requires : goal.count_in-n-requires
 count_in-n-requires c =
     let accepted : Accepts c.args.file.now (length c.args.l.now) (length c.args.a.now) (length c.args.b.now) =
-        read-accepts _ _ _ _ (sym c.read_refusal-refusal.ensures ∙ c.if-refusal-ne0.false) in
+    read-accepts _ _ _ _ (sym c.read_refusal-refusal.ensures ∙ c.if-refusal-ne0.false) in
     let formed : Formed c.args.file.now =
-        form-formed _ (file-parts _ accepted.file).0 in
+    form-formed _ (file-parts _ accepted.file).0 in
     omega (arith, formed.length_is)
 
 pub read_column-requires-clause-by_index : goal.read_column-requires-clause-by_index
 read_column-requires-clause-by_index c =
     let accepted : Accepts c.args.file.now (length c.args.l.now) (length c.args.a.now) (length c.args.b.now) =
-        read-accepts _ _ _ _ (sym c.read_refusal-refusal.ensures ∙ c.if-refusal-ne0.false) in
+    read-accepts _ _ _ _ (sym c.read_refusal-refusal.ensures ∙ c.if-refusal-ne0.false) in
     let formed : Formed c.args.file.now =
-        form-formed _ (file-parts _ accepted.file).0 in
+    form-formed _ (file-parts _ accepted.file).0 in
     (λ k h. omega (arith, c.count_in-n.ensures.0, formed))
 
 pub read_column-requires-clause-n_in_bounds : goal.read_column-requires-clause-n_in_bounds
 read_column-requires-clause-n_in_bounds c =
     let accepted : Accepts c.args.file.now (length c.args.l.now) (length c.args.a.now) (length c.args.b.now) =
-        read-accepts _ _ _ _ (sym c.read_refusal-refusal.ensures ∙ c.if-refusal-ne0.false) in
+    read-accepts _ _ _ _ (sym c.read_refusal-refusal.ensures ∙ c.if-refusal-ne0.false) in
     omega (arith, c.count_in-n.ensures.0, accepted)
 
 pub read_column-requires-2-clause-by_index : goal.read_column-requires-2-clause-by_index
 read_column-requires-2-clause-by_index c =
     let accepted : Accepts c.args.file.now (length c.args.l.now) (length c.args.a.now) (length c.args.b.now) =
-        read-accepts _ _ _ _ (sym c.read_refusal-refusal.ensures ∙ c.if-refusal-ne0.false) in
+    read-accepts _ _ _ _ (sym c.read_refusal-refusal.ensures ∙ c.if-refusal-ne0.false) in
     let formed : Formed c.args.file.now =
-        form-formed _ (file-parts _ accepted.file).0 in
+    form-formed _ (file-parts _ accepted.file).0 in
     (λ k h. omega (arith, c.count_in-n.ensures.0, formed))
 
 pub read_column-requires-2-clause-n_in_bounds : goal.read_column-requires-2-clause-n_in_bounds
 read_column-requires-2-clause-n_in_bounds c =
     let accepted : Accepts c.args.file.now (length c.args.l.now) (length c.args.a.now) (length c.args.b.now) =
-        read-accepts _ _ _ _ (sym c.read_refusal-refusal.ensures ∙ c.if-refusal-ne0.false) in
+    read-accepts _ _ _ _ (sym c.read_refusal-refusal.ensures ∙ c.if-refusal-ne0.false) in
     omega (arith, c.count_in-n.ensures.0, accepted)
 
 pub read_column-requires-3-clause-by_index : goal.read_column-requires-3-clause-by_index
 read_column-requires-3-clause-by_index c =
     let accepted : Accepts c.args.file.now (length c.args.l.now) (length c.args.a.now) (length c.args.b.now) =
-        read-accepts _ _ _ _ (sym c.read_refusal-refusal.ensures ∙ c.if-refusal-ne0.false) in
+    read-accepts _ _ _ _ (sym c.read_refusal-refusal.ensures ∙ c.if-refusal-ne0.false) in
     let formed : Formed c.args.file.now =
-        form-formed _ (file-parts _ accepted.file).0 in
+    form-formed _ (file-parts _ accepted.file).0 in
     (λ k h. omega (arith, c.count_in-n.ensures.0, formed))
 
 pub read_column-requires-3-clause-n_in_bounds : goal.read_column-requires-3-clause-n_in_bounds
 read_column-requires-3-clause-n_in_bounds c =
     let accepted : Accepts c.args.file.now (length c.args.l.now) (length c.args.a.now) (length c.args.b.now) =
-        read-accepts _ _ _ _ (sym c.read_refusal-refusal.ensures ∙ c.if-refusal-ne0.false) in
+    read-accepts _ _ _ _ (sym c.read_refusal-refusal.ensures ∙ c.if-refusal-ne0.false) in
     omega (arith, c.count_in-n.ensures.0, accepted)
 
 pub returns : goal.returns

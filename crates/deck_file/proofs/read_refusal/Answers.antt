@@ -11,13 +11,13 @@ returns-then-by_form-ne0 c = read-by-form _ _ _ _ c.form_refusal-by_form.ensures
 pub count_in-n-requires : goal.count_in-n-requires
 count_in-n-requires c =
     let formed : Formed c.args.file.now =
-        form-formed _ (sym c.form_refusal-by_form.ensures ∙ c.if-by_form-ne0.false) in
+    form-formed _ (sym c.form_refusal-by_form.ensures ∙ c.if-by_form-ne0.false) in
     omega (arith, formed.length_is)
 
 pub deck_refusal_in-by_deck-requires : goal.deck_refusal_in-by_deck-requires
 deck_refusal_in-by_deck-requires c =
     let formed : Formed c.args.file.now =
-        form-formed _ (sym c.form_refusal-by_form.ensures ∙ c.if-by_form-ne0.false) in
+    form-formed _ (sym c.form_refusal-by_form.ensures ∙ c.if-by_form-ne0.false) in
     (c.count_in-n.ensures.0, omega (arith, formed.length_is, c.count_in-n.ensures.0))
 
 pub returns : goal.returns

@@ -22,49 +22,49 @@ returns-then-refusal-ne0-clause-columns c = (refl, (refl, refl))
 pub overflow_cast-l : goal.overflow_cast-l
 overflow_cast-l c =
     let not-refused : write_refusal (columns c.args.l.now c.args.a.now c.args.b.now) (length c.args.file.now) ≡ 0 =
-        sym c.write_refusal-refusal.ensures ∙ c.if-refusal-ne0.false in
+    sym c.write_refusal-refusal.ensures ∙ c.if-refusal-ne0.false in
     let accepted : let d = columns c.args.l.now c.args.a.now c.args.b.now in (deck_refusal d ≡ 0) × (length (file_of d) ≤ length c.args.file.now) =
-        write-accepts _ _ not-refused in
+    write-accepts _ _ not-refused in
     let sizes : Sizes c.args.l.now c.args.a.now c.args.b.now =
-        columns-sizes _ _ _ accepted.0 in
+    columns-sizes _ _ _ accepted.0 in
     omega (arith, sizes.most)
 
 pub put_header-start-requires : goal.put_header-start-requires
 put_header-start-requires c =
     let not-refused : write_refusal (columns c.args.l.now c.args.a.now c.args.b.now) (length c.args.file.now) ≡ 0 =
-        sym c.write_refusal-refusal.ensures ∙ c.if-refusal-ne0.false in
+    sym c.write_refusal-refusal.ensures ∙ c.if-refusal-ne0.false in
     let accepted : let d = columns c.args.l.now c.args.a.now c.args.b.now in (deck_refusal d ≡ 0) × (length (file_of d) ≤ length c.args.file.now) =
-        write-accepts _ _ not-refused in
+    write-accepts _ _ not-refused in
     let room : 7 + 12 * length c.args.l.now ≤ length c.args.file.now =
-        omega (arith, accepted.1, file-length (columns c.args.l.now c.args.a.now c.args.b.now)) in
+    omega (arith, accepted.1, file-length (columns c.args.l.now c.args.a.now c.args.b.now)) in
     omega (arith, room)
 
 pub put_swatches-requires-clause-a_len : goal.put_swatches-requires-clause-a_len
 put_swatches-requires-clause-a_len c =
     let not-refused : write_refusal (columns c.args.l.now c.args.a.now c.args.b.now) (length c.args.file.now) ≡ 0 =
-        sym c.write_refusal-refusal.ensures ∙ c.if-refusal-ne0.false in
+    sym c.write_refusal-refusal.ensures ∙ c.if-refusal-ne0.false in
     let accepted : let d = columns c.args.l.now c.args.a.now c.args.b.now in (deck_refusal d ≡ 0) × (length (file_of d) ≤ length c.args.file.now) =
-        write-accepts _ _ not-refused in
+    write-accepts _ _ not-refused in
     let sizes : Sizes c.args.l.now c.args.a.now c.args.b.now =
-        columns-sizes _ _ _ accepted.0 in
+    columns-sizes _ _ _ accepted.0 in
     (sizes.a_is, sizes.b_is)
 
 pub put_swatches-requires-clause-l_in_bounds : goal.put_swatches-requires-clause-l_in_bounds
 put_swatches-requires-clause-l_in_bounds c =
     let not-refused : write_refusal (columns c.args.l.now c.args.a.now c.args.b.now) (length c.args.file.now) ≡ 0 =
-        sym c.write_refusal-refusal.ensures ∙ c.if-refusal-ne0.false in
+    sym c.write_refusal-refusal.ensures ∙ c.if-refusal-ne0.false in
     let accepted : let d = columns c.args.l.now c.args.a.now c.args.b.now in (deck_refusal d ≡ 0) × (length (file_of d) ≤ length c.args.file.now) =
-        write-accepts _ _ not-refused in
+    write-accepts _ _ not-refused in
     let room : 7 + 12 * length c.args.l.now ≤ length c.args.file.now =
-        omega (arith, accepted.1, file-length (columns c.args.l.now c.args.a.now c.args.b.now)) in
+    omega (arith, accepted.1, file-length (columns c.args.l.now c.args.a.now c.args.b.now)) in
     omega (arith, c.put_header-start.ensures.next, c.put_header-start.ensures.size, written-length c.put_header-start.ensures, room)
 
 pub returns : goal.returns
 returns c =
     let not-refused : write_refusal (columns c.args.l.now c.args.a.now c.args.b.now) (length c.args.file.now) ≡ 0 =
-        sym c.write_refusal-refusal.ensures ∙ c.if-refusal-ne0.false in
+    sym c.write_refusal-refusal.ensures ∙ c.if-refusal-ne0.false in
     let accepted : let d = columns c.args.l.now c.args.a.now c.args.b.now in (deck_refusal d ≡ 0) × (length (file_of d) ≤ length c.args.file.now) =
-        write-accepts _ _ not-refused in
+    write-accepts _ _ not-refused in
     let sizes : Sizes c.args.l.now c.args.a.now c.args.b.now =
-        columns-sizes _ _ _ accepted.0 in
+    columns-sizes _ _ _ accepted.0 in
     let done = writes-done _ _ (columns-kept _ _ _ sizes) not-refused in record { fact = done c.put_header-start.ensures c.put_swatches.ensures; columns = (refl, (refl, refl)) }

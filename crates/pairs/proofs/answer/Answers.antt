@@ -28,6 +28,7 @@ loop-from-init g c = (omega arith, starts-held _)
 pub loop-from-preserved : goal.loop-from-preserved
 loop-from-preserved g c =
     let l = c.loop-from in
-    let p = c.step-p in
-    (omega (arith, p.ensures.piece.read, length-take-le (length c.args.chunk.now - l.from) (drop l.from c.args.chunk.now), length-drop l.from c.args.chunk.now, l.invariant.0, c.loop-from-test.true),
-    held_on c.args.chunk.now l.from p.result.read _ l.invariant.1 p.ensures.piece.held)
+    let p = c.step-p in (
+      omega (arith, p.ensures.piece.read, length-take-le (length c.args.chunk.now - l.from) (drop l.from c.args.chunk.now), length-drop l.from c.args.chunk.now, l.invariant.0, c.loop-from-test.true),
+      held_on c.args.chunk.now l.from p.result.read _ l.invariant.1 p.ensures.piece.held,
+    )

@@ -25,10 +25,11 @@ loop-at-preserved c =
     let more = so_far_more _ _ c.loop-at.invariant.2 c.part_end-end.ensures.is c.equal.ensures c.if-equal.false
     c.read_row-row.ensures c.is_within-within.ensures c.loop-at.invariant.1 in
     elim c.if-count-lt-MOST_SWATCHES.branch [
-      then-count-lt-MOST_SWATCHES w ↦
-        (omega (arith, c.part_end-end.ensures.low), ap length w.swatches-is ∙ simp length-set c.loop-at.invariant.1, more (λ _. w.swatches-is))
-    | else-count-lt-MOST_SWATCHES w ↦
-        (omega (arith, c.part_end-end.ensures.low), ap length w.swatches-is ∙ c.loop-at.invariant.1, more (λ h. absurd (omega arith))) ]
+      | then-count-lt-MOST_SWATCHES w ↦
+          (omega (arith, c.part_end-end.ensures.low), ap length w.swatches-is ∙ simp length-set c.loop-at.invariant.1, more (λ _. w.swatches-is))
+      | else-count-lt-MOST_SWATCHES w ↦
+          (omega (arith, c.part_end-end.ensures.low), ap length w.swatches-is ∙ c.loop-at.invariant.1, more (λ h. absurd (omega arith)))
+    ]
 
 pub returns : goal.returns
 unfolding row_lines ends
