@@ -1,5 +1,7 @@
 // The public calls on readings: the three colour differences, the figures on the way to CIEDE2000
 // and the verdict against a tolerance. Every float is answered or refused.
+#![tactic(auto)]
+
 ghost use Rattle.std.specs.Prelude.{◌≡◌, cond, pos, ◌≤◌};
 ghost use Rattle.fixed_point.specs.Rounding.{fixed_size};
 ghost use Rattle.fixed_point.specs.Refusals.{reading_refusal};
