@@ -2,6 +2,8 @@
 // the search of one. The functions over a lent list are thin. Import copies the records that were
 // read, by value, and search copies the caller's once and does its work on their columns. For callers
 // that lend nothing, `import_list` and `search_list` do the same on a list held by value.
+#![tactic(auto)]
+
 ghost use Rattle.std.specs.Prelude.{◌≡◌, ◌++◌, ◌≤◌, length, take, drop, replicate};
 ghost use Rattle.deck.specs.Deck.{asked, most_swatches};
 ghost use Rattle.deck.specs.Search.{Searches};
