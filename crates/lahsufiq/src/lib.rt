@@ -1,5 +1,7 @@
 // The C interface: the public calls as functions of the static library lahsufiq, declared in
 // include/lahsufiq.h. Each returns the refusal's number, 0 for an answer.
+#![tactic(auto)]
+
 ghost use Rattle.std.specs.Prelude.{◌≡◌};
 ghost use Rattle.fixed_point.specs.Rounding.{fixed_size};
 ghost use Rattle.fixed_point.specs.Samples.{sample_of, weights_of};
