@@ -1,7 +1,6 @@
 -- Whole numbers in bytes, low byte first, and the bytes at a place.
 use Rattle.std.specs.Prelude.{Bool, true, false, ◌&&◌, List, [], ◌∷◌, ℕ, zero, suc, ◌+◌, ◌*◌, ◌/◌, ◌%◌, eqb, ℤ, take, drop}
-use Rattle.std.specs.Int.{w32}
-use Rattle.std.proofs.Common.{of_z, to_z}
+use Rattle.std.specs.Int.{w32, cast_unsigned, cast_signed}
 
 -- the n low bytes of x
 unfoldable pub bytes_of : ℕ → ℕ → List ℕ
@@ -13,12 +12,12 @@ unfoldable pub unsigned_of : List ℕ → ℕ
 unsigned_of [] = 0
 unsigned_of (b ∷ bs) = b + 256 * unsigned_of bs
 
--- a signed number of 32 bits, in two's complement: `of_z w32` gives the bits of a number, `to_z w32` the number of some bits
+-- a signed number of 32 bits, in two's complement: `cast_unsigned w32` gives the bits of a number, `cast_signed w32` the number of some bits
 unfoldable pub signed_bytes : ℤ → List ℕ
-signed_bytes z = bytes_of 4 (of_z w32 z)
+signed_bytes z = bytes_of 4 (cast_unsigned w32 z)
 
 unfoldable pub signed_of : List ℕ → ℤ
-signed_of bs = to_z w32 (unsigned_of bs)
+signed_of bs = cast_signed w32 (unsigned_of bs)
 
 -- the n bytes at a place, or as many as there are
 abbrev pub field : ℕ → ℕ → List ℕ → List ℕ

@@ -69,8 +69,8 @@ hue_difference_of none negative size = cond none (pos 0) (with_sign negative siz
 -- the mean hue: the sum where a sample is grey, whose hue is 0; else half the sum, and half a turn further, up or down, where
 -- the hues are more than half a turn apart
 unfoldable pub mean_hue_of : Bool → Bool → ℕ → ℕ → ℕ
-mean_hue_of anyGrey far h1 h2 =
-    cond anyGrey (h1 + h2)
+mean_hue_of any_grey far h1 h2 =
+    cond any_grey (h1 + h2)
     (cond far
     (cond (ltb (h1 + h2) 360000000) ((h1 + h2 + 360000000) / 2) ((h1 + h2 - 360000000) / 2))
     ((h1 + h2) / 2))

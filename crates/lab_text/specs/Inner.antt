@@ -1,7 +1,6 @@
 -- What the inner functions say of what they read.
-use Rattle.std.specs.Prelude.{◌≡◌, Bool, true, cond, List, [], ◌∷◌, map, ℕ, ◌≤◌, ◌<◌, ◌^◌, leb, eqb, length, take, drop}
+use Rattle.std.specs.Prelude.{◌≡◌, Bool, true, cond, List, [], ◌∷◌, map, ℕ, ◌≤◌, ◌<◌, ◌^◌, FitsSigned, leb, eqb, length, take, drop}
 use Rattle.std.specs.Int.{w32}
-use Rattle.std.proofs.Common.{SFits}
 use Rattle.buffer.specs.Inner.{parts_from}
 use Rattle.sample.specs.Refusals.{first_refusal}
 use Rattle.deck.specs.Deck.{most_swatches}
@@ -34,7 +33,7 @@ pub record CodeRead (word : List ℕ) (r : Code) : Type 0 where
 pub record ValueRead (word : List ℕ) (r : Value) : Type 0 where
   pub right : r.right ≡ is_value word
   pub is : r.value ≡ value_in word
-  pub fits : SFits w32 r.value
+  pub fits : FitsSigned w32 r.value
 
 -- ---- a line
 

@@ -16,7 +16,7 @@ ghost use Rattle.deck.specs.Deck.{asked, columns};
 ghost use Rattle.deck.specs.Answers.{number_of};
 ghost use Rattle.deck_file.specs.Transfers.{transfer_number, transfer_size, lent};
 ghost use Rattle.lahsufiq.specs.Interface.{reading, weights, application_of, comparison_of, one_of, handed_count, Hands, HandsSearch};
-ghost use Rattle.lab_text.specs.Imports.{lent as lentColumns};
+ghost use Rattle.lab_text.specs.Imports.{lent as lent_columns};
 ghost use Rattle.lahsufiq.specs.Interface.{HandsWrite, HandsRead, HandsImport};
 
 use deck::Found;
@@ -431,8 +431,8 @@ pub extern "C" fn lq_import(
     b: &mut [i32],
     count: &mut usize,
 ) -> u32
-    ensures import { let old = lentColumns code.old l.old a.old b.old in
-        let new = lentColumns code.new l.new a.new b.new in
+    ensures import { let old = lent_columns code.old l.old a.old b.old in
+        let new = lent_columns code.new l.new a.new b.new in
         HandsImport text.now old new result count.new }
     ensures text { text.exit.now ≡ text.entry.now }
 {

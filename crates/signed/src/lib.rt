@@ -4,8 +4,7 @@
 
 ghost use Rattle.std.specs.Prelude.{◌≡◌, cond, ◌+◌, ◌*◌, ◌/◌, ◌^◌, ◌<◌, eqb, pos, neg_ℤ, nat_abs, ◌+ℤ◌, ◌-ℤ◌, ◌*ℤ◌};
 ghost use Rattle.std.specs.Int.Signed.{lt_z, quot_z};
-ghost use Rattle.std.specs.Int.{w32};
-ghost use Rattle.std.proofs.Common.{of_z, to_z};
+ghost use Rattle.std.specs.Int.{w32, cast_unsigned, cast_signed};
 ghost use Rattle.signed.specs.Inner.{int, Exactly, Within, Apart, Size};
 
 // n, or -n where neg is true. Zero may carry either sign.
@@ -181,7 +180,7 @@ pub fn to_i32(a: Int) -> i32
 
 // The bits of x, in two's complement.
 pub fn to_bits(x: i32) -> u32
-    ensures { result ≡ of_z w32 x }
+    ensures { result ≡ cast_unsigned w32 x }
 {
     if x < 0 {
         return 4294967295 - ((-1 - x) as u32);
@@ -191,7 +190,7 @@ pub fn to_bits(x: i32) -> u32
 
 // The number of some bits, in two's complement.
 pub fn from_bits(n: u32) -> i32
-    ensures { result ≡ to_z w32 n }
+    ensures { result ≡ cast_signed w32 n }
 {
     if n < 2147483648 {
         return n as i32;
