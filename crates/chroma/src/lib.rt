@@ -17,8 +17,8 @@ const ONE_SQUARED: u64 = 1000000000000000000;
 
 // The bounds are those of a' and b', so that it serves both chromas.
 fn sum_of_squares(a: Int, b: Int) -> u64
-    requires n_bound { a.n ≤ 1920000000 }
-    requires n_bound_2 { b.n ≤ 1280000000 }
+    requires a_bound { a.n ≤ 1920000000 }
+    requires b_bound { b.n ≤ 1280000000 }
     ensures { result ≡ sum_of_squares (int a) (int b) }
 {
     a.n * a.n + b.n * b.n
@@ -26,8 +26,8 @@ fn sum_of_squares(a: Int, b: Int) -> u64
 
 // The chroma of a and b, each at most 128.
 pub fn chroma(a: Int, b: Int) -> u64
-    requires n_bound { a.n ≤ 1280000 }
-    requires n_bound_2 { b.n ≤ 1280000 }
+    requires a_bound { a.n ≤ 1280000 }
+    requires b_bound { b.n ≤ 1280000 }
     ensures { result ≡ chroma_of (int a) (int b) }
 {
     isqrt(1000000 * sum_of_squares(a, b))
@@ -66,7 +66,7 @@ pub fn ratio(s: u64) -> u64
 
 // a' of a and of the ratio of the pair's chroma sum.
 pub fn primed_a(a: Int, z: u64) -> Int
-    requires n_bound { a.n ≤ 1280000 }
+    requires a_bound { a.n ≤ 1280000 }
     requires z_bound { z ≤ 1000000000 }
     ensures { Within (primed_a (int a) z) 1920000000 result }
 {
@@ -83,8 +83,8 @@ pub fn in_ten_millionths(x: Int) -> Int
 
 // The chroma of a' and b'.
 pub fn primed_chroma(a: Int, b: Int) -> u64
-    requires n_bound { a.n ≤ 1920000000 }
-    requires n_bound_2 { b.n ≤ 1280000000 }
+    requires a_bound { a.n ≤ 1920000000 }
+    requires b_bound { b.n ≤ 1280000000 }
     ensures { result ≡ primed_chroma (int a) (int b) }
 {
     isqrt(sum_of_squares(a, b))

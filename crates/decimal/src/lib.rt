@@ -183,7 +183,7 @@ fn put_minus(out: &mut [u8], at: usize, v: Int) -> usize
 // v of 10^-places with so many decimals, and the byte `end`.
 pub fn put_fixed(out: &mut [u8], at: usize, v: Int, places: usize, end: u8) -> usize
     requires places_bound { places ≤ 6 }
-    requires at_in_bounds { at + 23 ≤ length out.old }
+    requires room { at + 23 ≤ length out.old }
     ensures { Written out.old at (fixed_text places (int v) ++ (end ∷ [])) 23 out.new result }
 {
     let whole = v.n / power_of_ten(places);

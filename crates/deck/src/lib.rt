@@ -136,7 +136,7 @@ fn lanes_refusal(s: Layout, l: &[i32], a: &[i32], b: &[i32]) -> u8
 
 // Refusal 6 or 7 of a deck, or 0.
 pub fn deck_refusal(l: &[i32], a: &[i32], b: &[i32]) -> u8
-    ensures value { result ≡ deck_refusal (columns l.now a.now b.now) }
+    ensures refusal { result ≡ deck_refusal (columns l.now a.now b.now) }
     ensures columns { (l.exit.now ≡ l.entry.now)
         × ((a.exit.now ≡ a.entry.now) × (b.exit.now ≡ b.entry.now)) }
 {
@@ -169,9 +169,9 @@ fn search_refusal(
 
 // The query in 1/10,000, with what depends on the reading alone.
 fn prepare_query(reading: Reading, weights: Weights, tolerance: f32) -> PreparedQuery
-    requires reading_value { reading_refusal reading ≡ 0 }
-    requires weights_value { weights_refusal weights ≡ 0 }
-    requires tolerance_value { tolerance_refusal tolerance ≡ 0 }
+    requires reading_accepted { reading_refusal reading ≡ 0 }
+    requires weights_accepted { weights_refusal weights ≡ 0 }
+    requires tolerance_accepted { tolerance_refusal tolerance ≡ 0 }
     ensures { IsQuery (fixed_query (asked reading weights tolerance)) result }
 {
     let w = fixed_point::fixed_weights(weights);
@@ -188,7 +188,7 @@ fn prepare_query(reading: Reading, weights: Weights, tolerance: f32) -> Prepared
 // The swatch at a place, as a sample of the working.
 fn swatch_at(s: Layout, l: &[i32], a: &[i32], b: &[i32], k: usize) -> Lab
     requires usable { Usable s l.now a.now b.now }
-    requires k_lt_count { k < s.count }
+    requires in_deck { k < s.count }
     ensures { let deck = lanes s l.now a.now b.now in
         AcceptedSample (colour_sample (deck.colour k)) result }
 {
@@ -197,9 +197,9 @@ fn swatch_at(s: Layout, l: &[i32], a: &[i32], b: &[i32], k: usize) -> Lab
 
 // The difference of a swatch, which is sample 1, and the reading.
 fn difference_of(sines: &[u32; 901], gaussians: &[u32; 1201], q: PreparedQuery, swatch: Lab) -> u64
-    requires sine_table { (SineTable sines.now) × (GaussianTable gaussians.now) }
+    requires tables { (SineTable sines.now) × (GaussianTable gaussians.now) }
     requires accepted { Accepted q }
-    requires sample_in { SampleIn (lab_of swatch) }
+    requires swatch_in { SampleIn (lab_of swatch) }
     ensures { Millionths (ciede2000_of q.weights (lab_of swatch) (prepared_sample q.reading)) result }
 {
     difference::ciede2000::ciede2000(
@@ -222,10 +222,10 @@ fn matches_at(
     b: &[i32],
     k: usize,
 ) -> bool
-    requires sine_table { (SineTable sines.now) × (GaussianTable gaussians.now) }
+    requires tables { (SineTable sines.now) × (GaussianTable gaussians.now) }
     requires accepted { Accepted q }
     requires usable { Usable s l.now a.now b.now }
-    requires k_lt_count { k < s.count }
+    requires in_deck { k < s.count }
     ensures { let deck = lanes s l.now a.now b.now in
         result ≡ match_at (query_of q) deck k }
 {
@@ -249,7 +249,7 @@ fn reach(k: u64, tolerance: u64) -> u64
 // The places whose lightness is within reach.
 fn lightness_window(lane: &[i32], stride: usize, n: usize, lightness: u64, reach: u64) -> Window
     requires spans { Spans lane.now stride n }
-    requires n_value { rising (lane_at lane.now stride) n ≡ true }
+    requires rises { rising (lane_at lane.now stride) n ≡ true }
     requires lightness_bound { lightness ≤ 1000000 }
     requires reach_bound { reach ≤ 17500018 }
     ensures from { let low = pos (lightness + 1) -ℤ pos (reach + 1) in
@@ -278,10 +278,10 @@ fn gather(
     w: Window,
     found: &mut [u16; MOST_SWATCHES],
 ) -> usize
-    requires sine_table { (SineTable sines.now) × (GaussianTable gaussians.now) }
+    requires tables { (SineTable sines.now) × (GaussianTable gaussians.now) }
     requires accepted { Accepted q }
     requires usable { Usable s l.now a.now b.now }
-    requires from_le_to { (w.from ≤ w.to) × (w.to ≤ s.count) }
+    requires window { (w.from ≤ w.to) × (w.to ≤ s.count) }
     requires found_len { length found.old ≡ most_swatches }
     ensures { let deck = lanes s l.now a.now b.now in
         ScratchIs (hits (match_at (query_of q) deck) w.from (w.to - w.from)) found.new result }
@@ -377,7 +377,7 @@ pub fn search(
     tolerance: f32,
     places: &mut [u16],
 ) -> Found
-    ensures fact { let deck = columns l.now a.now b.now in
+    ensures searches { let deck = columns l.now a.now b.now in
         let query = asked reading weights tolerance in
         Searches query deck places.old places.new result }
     ensures columns { (l.exit.now ≡ l.entry.now)

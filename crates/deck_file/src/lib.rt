@@ -72,8 +72,8 @@ fn put_swatch(file: &mut [u8], at: usize, l: i32, a: i32, b: i32) -> usize
 
 // All swatches.
 fn put_swatches(l: &[i32], a: &[i32], b: &[i32], file: &mut [u8], at: usize) -> usize
-    requires a_len { (length a.now ≡ length l.now) × (length b.now ≡ length l.now) }
-    requires l_in_bounds { at + 12 * length l.now ≤ length file.old }
+    requires same_len { (length a.now ≡ length l.now) × (length b.now ≡ length l.now) }
+    requires room { at + 12 * length l.now ≤ length file.old }
     ensures { let n = length l.now in
         let bytes = swatches_bytes (columns_at l.now a.now b.now) n in
         Written file.old at bytes (12 * n) file.new result }
@@ -101,7 +101,7 @@ fn write_refusal(l: &[i32], a: &[i32], b: &[i32], room: usize) -> u8
 
 // Writes a deck to the front of the caller's list. `Writes` says all, for every call.
 pub fn write(l: &[i32], a: &[i32], b: &[i32], file: &mut [u8]) -> Transfer
-    ensures fact { let deck = columns l.now a.now b.now in
+    ensures writes { let deck = columns l.now a.now b.now in
         Writes deck file.old file.new result }
     ensures columns { (l.exit.now ≡ l.entry.now)
         × ((a.exit.now ≡ a.entry.now) × (b.exit.now ≡ b.entry.now)) }
@@ -208,8 +208,8 @@ fn read_refusal(file: &[u8], l_room: usize, a_room: usize, b_room: usize) -> u8
 
 // Reads the numbers that stand 12 bytes apart, from a place on, to the front of a column.
 fn read_column(file: &[u8], first: usize, n: usize, column: &mut [i32])
-    requires by_index { (k : ℕ) → k < n → first + 12 * k + 4 ≤ length file.now }
-    requires n_in_bounds { n ≤ length column.old }
+    requires in_file { (k : ℕ) → k < n → first + 12 * k + 4 ≤ length file.now }
+    requires room { n ≤ length column.old }
     ensures { let numbers = column_of (column_in file.now first) n in
         column.new ≡ numbers ++ drop n column.old }
 {
@@ -222,7 +222,7 @@ fn read_column(file: &[u8], first: usize, n: usize, column: &mut [i32])
 
 // Reads a deck to the front of the caller's columns. `Reads` says all, for every call.
 pub fn read(file: &[u8], l: &mut [i32], a: &mut [i32], b: &mut [i32]) -> Transfer
-    ensures fact { let old = lent l.old a.old b.old in
+    ensures reads { let old = lent l.old a.old b.old in
         let new = lent l.new a.new b.new in
         Reads file.now old new result }
     ensures file { file.exit.now ≡ file.entry.now }

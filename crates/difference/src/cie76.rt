@@ -7,8 +7,8 @@ use sample::Lab;
 
 // CIE76 of two samples, in millionths.
 pub fn cie76(s: Lab, t: Lab) -> u64
-    requires sample_in { SampleIn (lab_of s) }
-    requires sample_in_2 { SampleIn (lab_of t) }
+    requires s_in { SampleIn (lab_of s) }
+    requires t_in { SampleIn (lab_of t) }
     ensures { Millionths (cie76_of (lab_of s) (lab_of t)) result }
 {
     let l = signed::natural_difference(t.l, s.l);

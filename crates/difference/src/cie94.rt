@@ -89,8 +89,8 @@ fn weighting_function(constant: u64, c: u64) -> u64
 
 // Steps 6 and 7 on 1000 a and 1000 b.
 fn hue_difference94(s: Prepared, t: Prepared) -> Int
-    requires ready { Ready s }
-    requires ready_2 { Ready t }
+    requires s_ready { Ready s }
+    requires t_ready { Ready t }
     ensures { let x = prepared_sample s in
         let y = prepared_sample t in
         Within (pair_hue_difference x y (plain_of x) (plain_of y)) 4615105632 result }
@@ -119,8 +119,8 @@ fn parts94(
     t: Prepared,
 ) -> SignedParts
     requires weights_in { WeightsIn w }
-    requires ready { Ready s }
-    requires ready_2 { Ready t }
+    requires s_ready { Ready s }
+    requires t_ready { Ready t }
     ensures { IsParts (parts94_of application comparison w (prepared_sample s) (prepared_sample t)) result }
 {
     let h = hue_difference94(s, t);
@@ -141,8 +141,8 @@ pub fn cie94(
     t: Prepared,
 ) -> u64
     requires weights_in { WeightsIn w }
-    requires ready { Ready s }
-    requires ready_2 { Ready t }
+    requires s_ready { Ready s }
+    requires t_ready { Ready t }
     ensures { Millionths (cie94_of application comparison w (prepared_sample s) (prepared_sample t)) result }
 {
     super::parts::root_of_parts(parts94(w, application, comparison, s, t), 0)

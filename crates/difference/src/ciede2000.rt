@@ -124,9 +124,9 @@ fn hue_figures(sines: &[u32; 901], s: Prepared, t: Prepared, p: Coordinates, q: 
 // Steps 9 to 11; e is the Gaussian at the mean hue.
 fn weighting_terms(sines: &[u32; 901], e: u64, l1: u64, l2: u64, sum: u64, mean: u64) -> Terms
     requires sine_table { SineTable sines.now }
-    requires e_value { e ≡ gaussian_of (hue_distance mean) }
-    requires l1_bound { (l1 ≤ 1000000) × (l2 ≤ 1000000) }
-    requires sum_bound { (sum ≤ 4615105632) × (mean < 720000000) }
+    requires gaussian { e ≡ gaussian_of (hue_distance mean) }
+    requires lightness_bounds { (l1 ≤ 1000000) × (l2 ≤ 1000000) }
+    requires chroma_and_hue_bounds { (sum ≤ 4615105632) × (mean < 720000000) }
     ensures { result ≡ terms_of l1 l2 sum mean }
 {
     let t = weighting::hue_term(sines, mean);
@@ -165,8 +165,8 @@ fn finish(
     hues: Hues,
 ) -> Finished
     requires sine_table { SineTable sines.now }
-    requires e_value { e ≡ gaussian_of (hue_distance hues.mean) }
-    requires weights_in { (WeightsIn w) × ((Ready s) × (Ready t)) }
+    requires gaussian { e ≡ gaussian_of (hue_distance hues.mean) }
+    requires ready { (WeightsIn w) × ((Ready s) × (Ready t)) }
     requires points { IsPoints (prepared_sample s) (prepared_sample t) x }
     requires hue_figures { HueFigures (prepared_sample s) (prepared_sample t) (point_of x.p) (point_of x.q) hues }
     ensures { IsFinished (figures_of w (prepared_sample s) (prepared_sample t)) result }
@@ -193,8 +193,8 @@ pub fn figures(
     s: Prepared,
     t: Prepared,
 ) -> Intermediates
-    requires sine_table { (SineTable sines.now) × (GaussianTable gaussians.now) }
-    requires weights_in { (WeightsIn w) × ((Ready s) × (Ready t)) }
+    requires tables { (SineTable sines.now) × (GaussianTable gaussians.now) }
+    requires ready { (WeightsIn w) × ((Ready s) × (Ready t)) }
     ensures { IsFigures (figures_of w (prepared_sample s) (prepared_sample t)) result }
 {
     let x = points_of(s, t);
@@ -226,8 +226,8 @@ pub fn ciede2000(
     s: Prepared,
     t: Prepared,
 ) -> u64
-    requires sine_table { (SineTable sines.now) × (GaussianTable gaussians.now) }
-    requires weights_in { (WeightsIn w) × ((Ready s) × (Ready t)) }
+    requires tables { (SineTable sines.now) × (GaussianTable gaussians.now) }
+    requires ready { (WeightsIn w) × ((Ready s) × (Ready t)) }
     ensures { Millionths (ciede2000_of w (prepared_sample s) (prepared_sample t)) result }
 {
     let x = points_of(s, t);
@@ -269,9 +269,9 @@ pub fn ciede2000_two(
     s2: Prepared,
     t2: Prepared,
 ) -> Two
-    requires sine_table { (SineTable sines.now) × (GaussianTable gaussians.now) }
-    requires weights_in { (WeightsIn w) × ((Ready s1) × (Ready t1)) }
-    requires ready { (Ready s2) × (Ready t2) }
+    requires tables { (SineTable sines.now) × (GaussianTable gaussians.now) }
+    requires first_ready { (WeightsIn w) × ((Ready s1) × (Ready t1)) }
+    requires second_ready { (Ready s2) × (Ready t2) }
     ensures first { Millionths (ciede2000_of w (prepared_sample s1) (prepared_sample t1)) result.first }
     ensures second { Millionths (ciede2000_of w (prepared_sample s2) (prepared_sample t2)) result.second }
 {

@@ -18,7 +18,7 @@ pub struct SignedParts {
 
 // A difference d, times scale, over the weight w, toward zero.
 fn part(d: Int, scale: u64, w: u64) -> Int
-    requires scale_bound { d.n * scale < 2 ^ 64 }
+    requires product_fits { d.n * scale < 2 ^ 64 }
     requires w_nonzero { 0 < w }
     ensures { Exactly (part_of (int d) scale w) (d.n * scale / w) result }
 {
@@ -28,7 +28,7 @@ fn part(d: Int, scale: u64, w: u64) -> Int
 // k S / 10^4.
 fn weight(k: u64, s: u64) -> u64
     requires weight_in { WeightIn k }
-    requires le_s { (1000000000 ≤ s) × (s ≤ 11400000000) }
+    requires s_bounds { (1000000000 ≤ s) × (s ≤ 11400000000) }
     ensures { (result ≡ weighted k s) × (500000000 ≤ result) }
 {
     k * s / 10000
@@ -37,10 +37,10 @@ fn weight(k: u64, s: u64) -> u64
 // Step 12's parts.
 pub fn parts(w: FixedWeights, dl: Int, dc: Int, dh: Int, sl: u64, sc: u64, sh: u64) -> SignedParts
     requires weights_in { WeightsIn w }
-    requires n_bound { (dl.n ≤ 1000000) × ((dc.n ≤ 2307552816) × (dh.n ≤ 4615105632)) }
-    requires le_sl { (1000000000 ≤ sl) × (sl ≤ 11400000000) }
-    requires le_sc { (1000000000 ≤ sc) × (sc ≤ 11400000000) }
-    requires le_sh { (1000000000 ≤ sh) × (sh ≤ 11400000000) }
+    requires difference_bounds { (dl.n ≤ 1000000) × ((dc.n ≤ 2307552816) × (dh.n ≤ 4615105632)) }
+    requires sl_bounds { (1000000000 ≤ sl) × (sl ≤ 11400000000) }
+    requires sc_bounds { (1000000000 ≤ sc) × (sc ≤ 11400000000) }
+    requires sh_bounds { (1000000000 ≤ sh) × (sh ≤ 11400000000) }
     ensures { IsParts (parts_of w (int dl) (int dc) (int dh) sl sc sh) result }
 {
     SignedParts {

@@ -18,7 +18,7 @@ pub fn gaussian_table() -> [u32; 1201]
 
 // What stands between two entries, `rest` past the first.
 fn between(here: u32, next: u32, rest: u64) -> u64
-    requires next_le_here { (next ≤ here) × (here ≤ 1000000000) }
+    requires entry_bounds { (next ≤ here) × (here ≤ 1000000000) }
     requires rest_bound { rest < 100000 }
     ensures { result ≡ here - (here - next) * rest / 100000 }
 {

@@ -27,7 +27,7 @@ pub fn quadrant(a: Int, b: Int) -> u64
 // Whether y cos k - x sin k is at least 0, for k tenths of a degree.
 fn reached(t: &[u32; 901], x: u64, y: u64, k: usize) -> bool
     requires sine_table { SineTable t.now }
-    requires x_bound { (x ≤ 2400000000) × (y ≤ 2400000000) }
+    requires xy_bound { (x ≤ 2400000000) × (y ≤ 2400000000) }
     requires k_bound { k ≤ 900 }
     ensures { result ≡ reaches x y k }
 {
@@ -38,9 +38,9 @@ fn reached(t: &[u32; 901], x: u64, y: u64, k: usize) -> bool
 // that holds it is searched the same way. Which half is a choice of its start alone, so no branch depends on it.
 fn tenth(t: &[u32; 901], x: u64, y: u64, low: usize, width: usize) -> usize
     requires sine_table { SineTable t.now }
-    requires x_bound { (x ≤ 2400000000) × (y ≤ 2400000000) }
+    requires xy_bound { (x ≤ 2400000000) × (y ≤ 2400000000) }
     requires width_bound { low + width ≤ 899 }
-    requires low_value { reaches x y low ≡ true }
+    requires low_reached { reaches x y low ≡ true }
     ensures { result ≡ largest (reaches x y) (low + width) }
 {
     if width == 0 {
@@ -99,7 +99,7 @@ fn estimate(x: u64, y: u64) -> usize
 // The largest tenth that (x, y) reaches: the estimate or the one before, and where that fails, by halving all.
 fn tenth_of(t: &[u32; 901], x: u64, y: u64) -> usize
     requires sine_table { SineTable t.now }
-    requires x_bound { (x ≤ 2400000000) × (y ≤ 2400000000) }
+    requires xy_bound { (x ≤ 2400000000) × (y ≤ 2400000000) }
     ensures { result ≡ tenth_of x y }
 {
     let k = estimate(x, y);
@@ -114,9 +114,9 @@ fn tenth_of(t: &[u32; 901], x: u64, y: u64) -> usize
 // What the hue of (x, y) is past k tenths of a degree.
 fn rest(t: &[u32; 901], x: u64, y: u64, k: usize, chroma: u64) -> u64
     requires sine_table { SineTable t.now }
-    requires x_le_chroma { (x ≤ chroma) × (y ≤ chroma) }
-    requires chroma_nonzero { (0 < chroma) × (chroma ≤ 2400000000) }
-    requires k_bound { (k ≤ 900) × (reaches x y k ≡ true) }
+    requires xy_le_chroma { (x ≤ chroma) × (y ≤ chroma) }
+    requires chroma_bounds { (0 < chroma) × (chroma ≤ 2400000000) }
+    requires k_reached { (k ≤ 900) × (reaches x y k ≡ true) }
     ensures { result ≡ rest_of x y k chroma }
 {
     // the sine of the rest, taken for its arc, and that in 10^-6 degree
@@ -129,8 +129,8 @@ fn rest(t: &[u32; 901], x: u64, y: u64, k: usize, chroma: u64) -> u64
 fn angle(t: &[u32; 901], q: u64, x: u64, y: u64, chroma: u64) -> u64
     requires sine_table { SineTable t.now }
     requires q_bound { q < 4 }
-    requires x_le_chroma { (x ≤ chroma) × (y ≤ chroma) }
-    requires chroma_nonzero { (0 < chroma) × (chroma ≤ 2400000000) }
+    requires xy_le_chroma { (x ≤ chroma) × (y ≤ chroma) }
+    requires chroma_bounds { (0 < chroma) × (chroma ≤ 2400000000) }
     ensures { result ≡ 90000000 * q + angle_of x y chroma }
 {
     let k = tenth_of(t, x, y);
@@ -140,7 +140,7 @@ fn angle(t: &[u32; 901], q: u64, x: u64, y: u64, chroma: u64) -> u64
 // The hue of (a, b) with the given chroma. Grey has the hue 0.
 pub fn hue(t: &[u32; 901], a: Int, b: Int, chroma: u64) -> u64
     requires sine_table { SineTable t.now }
-    requires n_le_chroma { (a.n ≤ chroma) × (b.n ≤ chroma) }
+    requires ab_le_chroma { (a.n ≤ chroma) × (b.n ≤ chroma) }
     requires chroma_bound { chroma ≤ 2400000000 }
     ensures { result ≡ hue_of (int a) (int b) chroma }
 {

@@ -53,10 +53,10 @@ fn is_minus(opposite: bool, second: bool, negative: bool) -> bool
 
 // The side of the hue circle, of a and b in 1/10,000 and the quadrants that they are in.
 pub fn side_of(a1: Int, b1: Int, q1: u64, a2: Int, b2: Int, q2: u64) -> Side
-    requires n_bound { (a1.n ≤ 1280000) × (b1.n ≤ 1280000) }
-    requires n_bound_2 { (a2.n ≤ 1280000) × (b2.n ≤ 1280000) }
-    requires q1_value { q1 ≡ quadrant_of (int a1) (int b1) }
-    requires q2_value { q2 ≡ quadrant_of (int a2) (int b2) }
+    requires first_bounds { (a1.n ≤ 1280000) × (b1.n ≤ 1280000) }
+    requires second_bounds { (a2.n ≤ 1280000) × (b2.n ≤ 1280000) }
+    requires first_quadrant { q1 ≡ quadrant_of (int a1) (int b1) }
+    requires second_quadrant { q2 ≡ quadrant_of (int a2) (int b2) }
     ensures { SideIs (int a1) (int b1) (int a2) (int b2) result }
 {
     let x = cross(a1, b1, a2, b2);
@@ -75,9 +75,9 @@ pub fn side_of(a1: Int, b1: Int, q1: u64, a2: Int, b2: Int, q2: u64) -> Side
 
 // The size of H in 10^-7, of a', b' and C' in 10^-7. C1'C2' + d where d is not below 0, and C1'C2' - d where it is, are one sum.
 fn hue_size(a1: Int, b1: Int, c1: u64, a2: Int, b2: Int, c2: u64) -> u64
-    requires primed { Primed a1.n b1.n c1 }
-    requires primed_2 { Primed a2.n b2.n c2 }
-    requires le_c1 { (1000 ≤ c1) × (1000 ≤ c2) }
+    requires first_primed { Primed a1.n b1.n c1 }
+    requires second_primed { Primed a2.n b2.n c2 }
+    requires not_grey { (1000 ≤ c1) × (1000 ≤ c2) }
     ensures { result ≡ hue_size (int a1) (int b1) c1 (int a2) (int b2) c2 }
 {
     let d = dot(a1, b1, a2, b2);
@@ -100,9 +100,9 @@ pub fn hue_difference(
     b2: Int,
     c2: u64,
 ) -> Int
-    requires primed { Primed a1.n b1.n c1 }
-    requires primed_2 { Primed a2.n b2.n c2 }
-    requires le_c1 { none ≡ false → (1000 ≤ c1) × (1000 ≤ c2) }
+    requires first_primed { Primed a1.n b1.n c1 }
+    requires second_primed { Primed a2.n b2.n c2 }
+    requires not_grey { none ≡ false → (1000 ≤ c1) × (1000 ≤ c2) }
     ensures { Within (hue_difference_of none negative (hue_size (int a1) (int b1) c1 (int a2) (int b2) c2)) 4615105632 result }
 {
     if none {

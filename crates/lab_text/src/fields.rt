@@ -145,7 +145,7 @@ pub fn value_at(line: &[u8], w: Words, k: usize) -> Value
 // Where a name stands among the four words of a line, or 4.
 pub fn place_of(line: &[u8], w: Words, name: &[u8]) -> usize
     requires words { IsWords line.now w }
-    requires four_value { w.four ≡ true }
+    requires four_words { w.four ≡ true }
     ensures { result ≡ place_of name.now (words_of line.now) }
 {
     let mut k = 0;

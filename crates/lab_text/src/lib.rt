@@ -95,7 +95,7 @@ pub fn import(
     a: &mut [i32],
     b: &mut [i32],
 ) -> Transfer
-    ensures fact { let old = lent code.old l.old a.old b.old in
+    ensures imports { let old = lent code.old l.old a.old b.old in
         let new = lent code.new l.new a.new b.new in
         Imports text.now old new result }
     ensures text { text.exit.now ≡ text.entry.now }

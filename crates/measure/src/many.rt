@@ -103,7 +103,7 @@ fn pair_answer(
     w: FixedWeights,
     x: Colours,
 ) -> PairAnswer
-    requires sine_table { (SineTable sines.now) × (GaussianTable gaussians.now) }
+    requires tables { (SineTable sines.now) × (GaussianTable gaussians.now) }
     requires weights_in { WeightsIn w }
     ensures { AnswerIs (rounded_answer refused w x.s x.t) result }
 {
@@ -128,7 +128,7 @@ fn two_answers(
     x: Colours,
     y: Colours,
 ) -> TwoAnswers
-    requires sine_table { (SineTable sines.now) × (GaussianTable gaussians.now) }
+    requires tables { (SineTable sines.now) × (GaussianTable gaussians.now) }
     requires weights_in { WeightsIn w }
     ensures first { AnswerIs (rounded_answer refused w x.s x.t) result.first }
     ensures second { AnswerIs (rounded_answer refused w y.s y.t) result.second }
@@ -162,10 +162,10 @@ fn answer_pairs(
     differences: &mut [f64],
     refusals: &mut [u8],
 )
-    requires sine_table { (SineTable sines.now) × (GaussianTable gaussians.now) }
+    requires tables { (SineTable sines.now) × (GaussianTable gaussians.now) }
     requires weights_in { WeightsIn w }
-    requires n_in_bounds { (3 * n ≤ length standards.now) × (3 * n ≤ length samples.now) }
-    requires n_in_bounds_2 { (n ≤ length differences.old) × (n ≤ length refusals.old) }
+    requires colours_in_lists { (3 * n ≤ length standards.now) × (3 * n ≤ length samples.now) }
+    requires room { (n ≤ length differences.old) × (n ≤ length refusals.old) }
     ensures { let answer = rounded_pair refused w standards.now samples.now in
         let old = results differences.old refusals.old in
         let new = results differences.new refusals.new in

@@ -89,7 +89,7 @@ fn chromas_most(n: Neighbourhood, s: Lab) -> u64
 // What a difference d in lightness leaves of the tolerance for chroma and hue.
 fn left_tolerance(tolerance: u64, kl: u64, d: u64) -> u64
     requires weight_in { WeightIn kl }
-    requires tolerance_bound { (tolerance ≤ 1000000) × (d ≤ 2000000) }
+    requires bounds { (tolerance ≤ 1000000) × (d ≤ 2000000) }
     ensures { Most (left_tolerance tolerance kl d) 1000000 result }
 {
     let whole = 5 * tolerance + 4;
@@ -122,7 +122,7 @@ fn weight_most(n: u64) -> u64
 // How far apart in a and b a pair within the tolerance can be.
 fn radius(tolerance: u64, k: u64, n: u64) -> u64
     requires weight_in { WeightIn k }
-    requires tolerance_bound { (tolerance ≤ 1000000) × (n ≤ 5120000000) }
+    requires bounds { (tolerance ≤ 1000000) × (n ≤ 5120000000) }
     ensures { Most (radius_of tolerance k n) 400000000 result }
 {
     let allowed = parts_most(tolerance) * k / 10000 + 1;
@@ -131,8 +131,8 @@ fn radius(tolerance: u64, k: u64, n: u64) -> u64
 
 // da² + db².
 fn distance_square(s: Lab, t: Lab) -> u64
-    requires sample_in { SampleIn (lab_of s) }
-    requires sample_in_2 { SampleIn (lab_of t) }
+    requires s_in { SampleIn (lab_of s) }
+    requires t_in { SampleIn (lab_of t) }
     ensures { result ≡ distance_square (lab_of s) (lab_of t) }
 {
     let a = signed::size(signed::difference(t.a, s.a));

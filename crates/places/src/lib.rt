@@ -19,7 +19,7 @@ pub fn entry(lane: &[i32], stride: usize, k: usize) -> i32
 // binary search: the answer is lo, hi or between them.
 pub fn first_at_least(lane: &[i32], stride: usize, n: usize, bound: i32) -> usize
     requires spans { Spans lane.now stride n }
-    requires n_value { rising (lane_at lane.now stride) n ≡ true }
+    requires rises { rising (lane_at lane.now stride) n ≡ true }
     ensures { Split (lane_at lane.now stride) n bound result }
 {
     let mut lo = 0;
@@ -37,8 +37,8 @@ pub fn first_at_least(lane: &[i32], stride: usize, n: usize, bound: i32) -> usiz
 
 // Copies the first n of the found places to the front of the caller's list.
 pub fn copy_front(found: &[u16], n: usize, places: &mut [u16])
-    requires n_in_bounds { n ≤ length found.now }
-    requires n_in_bounds_2 { n ≤ length places.old }
+    requires in_found { n ≤ length found.now }
+    requires room { n ≤ length places.old }
     ensures { places.new ≡ take n found.now ++ drop n places.old }
 {
     let mut k = 0;

@@ -178,7 +178,7 @@ pub fn search(
     tolerance: f32,
     places: &mut [u16],
 ) -> Found
-    ensures fact { let deck = deck_of records.now in
+    ensures searches { let deck = deck_of records.now in
         let query = asked reading weights tolerance in
         Searches query deck places.old places.new result }
     ensures records { records.exit.now ≡ records.entry.now }

@@ -74,8 +74,8 @@ fn parse(s: &[u8]) -> ParsedLine
 
 // `refused` and the number, which has one digit.
 fn put_refused(out: &mut [u8], at: usize, n: u8) -> usize
-    requires at_in_bounds { at + 10 ≤ length out.old }
-    requires n_bound { n < 10 }
+    requires room { at + 10 ≤ length out.old }
+    requires one_digit { n < 10 }
     ensures { Written out.old at (refused_text n) 10 out.new result }
 {
     let digit = buffer::put_bytes(out, at, b"refused ");
@@ -109,8 +109,8 @@ fn put_six(out: &mut [u8], at: usize, f: Six) -> usize
 
 // The figures of two samples: all weights 1, CIE94 with 45 and 15 and the first as a standard.
 fn work(sines: &[u32; 901], gaussians: &[u32; 1201], s: Lab, t: Lab) -> Six
-    requires sine_table { (SineTable sines.now) × (GaussianTable gaussians.now) }
-    requires sample_in { (SampleIn (lab_of s)) × (SampleIn (lab_of t)) }
+    requires tables { (SineTable sines.now) × (GaussianTable gaussians.now) }
+    requires samples_in { (SampleIn (lab_of s)) × (SampleIn (lab_of t)) }
     ensures { figures_text (six_list result) ≡ figures_line (lab_of s) (lab_of t) }
 {
     let w = FixedWeights {
@@ -150,8 +150,8 @@ fn put_pair(
     out: &mut [u8],
     at: usize,
 ) -> usize
-    requires sine_table { (SineTable sines.now) × (GaussianTable gaussians.now) }
-    requires answer_most_in_bounds { at + answer_most ≤ length out.old }
+    requires tables { (SineTable sines.now) × (GaussianTable gaussians.now) }
+    requires room { at + answer_most ≤ length out.old }
     ensures { let answer = pair_answer (colour_of s) (colour_of t) in
         Written out.old at answer answer_most out.new result }
 {
@@ -179,9 +179,9 @@ fn put_answer(
     out: &mut [u8],
     at: usize,
 ) -> usize
-    requires sine_table { (SineTable sines.now) × (GaussianTable gaussians.now) }
+    requires tables { (SineTable sines.now) × (GaussianTable gaussians.now) }
     requires line_len { length line.now ≡ line_most }
-    requires answer_most_in_bounds { at + answer_most ≤ length out.old }
+    requires room { at + answer_most ≤ length out.old }
     ensures { let answer = held_answer (held_in line.now len) in
         Written out.old at answer answer_most out.new result }
 {

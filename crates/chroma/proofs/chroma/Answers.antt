@@ -6,7 +6,7 @@ use Rattle.chroma.proofs.chroma.Goals as goal
 
 pub overflow_mul-sum_of_squares : goal.overflow_mul-sum_of_squares
 overflow_mul-sum_of_squares c =
-    omega (arith, sum_of_squares-is c.args.a c.args.b, squares-le c.requires.n_bound c.requires.n_bound_2)
+    omega (arith, sum_of_squares-is c.args.a c.args.b, squares-le c.requires.a_bound c.requires.b_bound)
 
 pub returns : goal.returns
 unfolding chroma_of

@@ -7,8 +7,8 @@ use Rattle.deck.proofs.deck_refusal.Goals as goal
 pub lanes_refusal-requires : goal.lanes_refusal-requires
 lanes_refusal-requires c = rw c.columns_layout.ensures (columns-laid _ _ _)
 
-pub returns-clause-value : goal.returns-clause-value
-returns-clause-value c = (rw c.columns_layout.ensures at c.lanes_refusal.ensures) ∙ ap deck_refusal (columns-lanes _ _ _)
+pub returns-clause-refusal : goal.returns-clause-refusal
+returns-clause-refusal c = (rw c.columns_layout.ensures at c.lanes_refusal.ensures) ∙ ap deck_refusal (columns-lanes _ _ _)
 
 pub returns-clause-columns : goal.returns-clause-columns
 returns-clause-columns c = (refl, (refl, refl))

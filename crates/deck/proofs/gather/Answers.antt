@@ -13,10 +13,10 @@ few : (c : In-loop-i) → c.args.s.count ≤ most_swatches
 few c = c.requires.usable.laid.most
 
 pub loop-i-init : goal.loop-i-init
-loop-i-init c = (c.requires.found_len, c.requires.from_le_to.0, gathered_none _ _ _)
+loop-i-init c = (c.requires.found_len, c.requires.window.0, gathered_none _ _ _)
 
-pub matches_at-requires-clause-sine_table : goal.matches_at-requires-clause-sine_table
-matches_at-requires-clause-sine_table c = c.requires.sine_table
+pub matches_at-requires-clause-tables : goal.matches_at-requires-clause-tables
+matches_at-requires-clause-tables c = c.requires.tables
 
 pub matches_at-requires-clause-accepted : goal.matches_at-requires-clause-accepted
 matches_at-requires-clause-accepted c = c.requires.accepted

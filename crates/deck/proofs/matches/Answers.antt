@@ -9,9 +9,9 @@ pub lightness_window-w-requires-clause-spans : goal.lightness_window-w-requires-
 unfolding prepared_sample lanes_at
 lightness_window-w-requires-clause-spans c = c.requires.usable.laid.l_spans
 
-pub lightness_window-w-requires-clause-n_value : goal.lightness_window-w-requires-clause-n_value
+pub lightness_window-w-requires-clause-rises : goal.lightness_window-w-requires-clause-rises
 unfolding prepared_sample lanes_at
-lightness_window-w-requires-clause-n_value c = (deck-valid _ c.requires.usable.accepted).rises
+lightness_window-w-requires-clause-rises c = (deck-valid _ c.requires.usable.accepted).rises
 
 pub lightness_window-w-requires-clause-lightness_bound : goal.lightness_window-w-requires-clause-lightness_bound
 unfolding prepared_sample lanes_at
@@ -25,7 +25,7 @@ pub gather-requires : goal.gather-requires
 unfolding prepared_sample lanes_at
 gather-requires c =
     let order = window-order _ c.requires.accepted.weights c.requires.accepted.reading.within _ (deck-valid _ c.requires.usable.accepted) _
-    c.reach-d.ensures.0 _ _ c.lightness_window-w.ensures.from c.lightness_window-w.ensures.to in record { sine_table = (c.sine_table-sines.ensures, c.gaussian_table-gaussians.ensures); accepted = c.requires.accepted; usable = c.requires.usable; from_le_to = (order, c.lightness_window-w.ensures.to.size); found_len = c.requires.found_len }
+    c.reach-d.ensures.0 _ _ c.lightness_window-w.ensures.from c.lightness_window-w.ensures.to in record { tables = (c.sine_table-sines.ensures, c.gaussian_table-gaussians.ensures); accepted = c.requires.accepted; usable = c.requires.usable; window = (order, c.lightness_window-w.ensures.to.size); found_len = c.requires.found_len }
 
 pub returns : goal.returns
 unfolding prepared_sample lanes_at

@@ -5,16 +5,16 @@ use Rattle.deck.specs.Deck.{fixed_query}
 use Rattle.deck.proofs.prepare_query.Goals as goal
 
 pub prepare-requires : goal.prepare-requires
-prepare-requires c = rw c.fixed_reading-r.ensures (sample_in _ c.requires.reading_value)
+prepare-requires c = rw c.fixed_reading-r.ensures (sample_in _ c.requires.reading_accepted)
 
 pub neighbourhood_of-requires-clause-weights_in : goal.neighbourhood_of-requires-clause-weights_in
-neighbourhood_of-requires-clause-weights_in c = rw c.fixed_weights-w.ensures (weights_in _ c.requires.weights_value)
+neighbourhood_of-requires-clause-weights_in c = rw c.fixed_weights-w.ensures (weights_in _ c.requires.weights_accepted)
 
 pub neighbourhood_of-requires-clause-tolerance_bound : goal.neighbourhood_of-requires-clause-tolerance_bound
-neighbourhood_of-requires-clause-tolerance_bound c = rw c.fixed_tolerance-t.ensures (tolerance-le _ c.requires.tolerance_value)
+neighbourhood_of-requires-clause-tolerance_bound c = rw c.fixed_tolerance-t.ensures (tolerance-le _ c.requires.tolerance_accepted)
 
 pub neighbourhood_of-requires-clause-sample_in : goal.neighbourhood_of-requires-clause-sample_in
-neighbourhood_of-requires-clause-sample_in c = rw c.fixed_reading-r.ensures (sample_in _ c.requires.reading_value)
+neighbourhood_of-requires-clause-sample_in c = rw c.fixed_reading-r.ensures (sample_in _ c.requires.reading_accepted)
 
 pub returns : goal.returns
 unfolding fixed_query
@@ -23,9 +23,9 @@ returns c =
     record {
       is = λ i. record { weights = c.fixed_weights-w.ensures i; reading = reading i; tolerance = c.fixed_tolerance-t.ensures i };
       accepted = record {
-        weights = rw c.fixed_weights-w.ensures (weights_in _ c.requires.weights_value);
+        weights = rw c.fixed_weights-w.ensures (weights_in _ c.requires.weights_accepted);
         reading = c.prepare.ensures.ready;
-        tolerance = rw c.fixed_tolerance-t.ensures (tolerance-le _ c.requires.tolerance_value);
+        tolerance = rw c.fixed_tolerance-t.ensures (tolerance-le _ c.requires.tolerance_accepted);
         near = rw c.prepare.ensures.is c.neighbourhood_of.ensures;
       };
     }

@@ -8,4 +8,4 @@ search_lanes-requires c = rw c.columns_layout-s.ensures (columns-laid _ _ _)
 
 pub returns : goal.returns
 returns c =
-    let lanes = columns-lanes c.args.l.now c.args.a.now c.args.b.now in record { fact = rw (c.columns_layout-s.ensures, lanes) at c.search_lanes.ensures; columns = (refl, (refl, refl)) }
+    let lanes = columns-lanes c.args.l.now c.args.a.now c.args.b.now in record { searches = rw (c.columns_layout-s.ensures, lanes) at c.search_lanes.ensures; columns = (refl, (refl, refl)) }

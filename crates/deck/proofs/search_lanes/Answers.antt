@@ -14,7 +14,7 @@ returns-then-refusal-ne0 c =
 
 pub prepare_query-q-requires : goal.prepare_query-q-requires
 prepare_query-q-requires c =
-    let h = search-accepts _ _ (sym c.search_refusal-refusal.ensures ∙ c.if-refusal-ne0.false) in record { reading_value = h.reading_in; weights_value = h.weights_in; tolerance_value = h.tolerance-in }
+    let h = search-accepts _ _ (sym c.search_refusal-refusal.ensures ∙ c.if-refusal-ne0.false) in record { reading_accepted = h.reading_in; weights_accepted = h.weights_in; tolerance_accepted = h.tolerance-in }
 
 pub matches-n-requires : goal.matches-n-requires
 matches-n-requires c =

@@ -15,19 +15,19 @@ loop-k-init c = (omega arith, refl, refl)
 pub overflow_mul-k : goal.overflow_mul-k
 overflow_mul-k c =
     let there : c.args.first + 12 * c.loop-k.k + 4 ≤ length c.args.file.now =
-    c.requires.by_index _ c.loop-k-test.true in
+    c.requires.in_file _ c.loop-k-test.true in
     omega (arith, there)
 
 pub overflow_add-first : goal.overflow_add-first
 overflow_add-first c =
     let there : c.args.first + 12 * c.loop-k.k + 4 ≤ length c.args.file.now =
-    c.requires.by_index _ c.loop-k-test.true in
+    c.requires.in_file _ c.loop-k-test.true in
     omega (arith, there)
 
 pub i32_at-requires : goal.i32_at-requires
 i32_at-requires c =
     let there : c.args.first + 12 * c.loop-k.k + 4 ≤ length c.args.file.now =
-    c.requires.by_index _ c.loop-k-test.true in
+    c.requires.in_file _ c.loop-k-test.true in
     there
 
 pub loop-k-preserved : goal.loop-k-preserved

@@ -13,8 +13,8 @@ use Rattle.deck_file.proofs.Refusing.{write-accepts}
 use Rattle.deck_file.proofs.Answering.{writes-refused, writes-done}
 use Rattle.deck_file.proofs.write.Goals as goal
 
-pub returns-then-refusal-ne0-clause-fact : goal.returns-then-refusal-ne0-clause-fact
-returns-then-refusal-ne0-clause-fact c = writes-refused _ _ c.write_refusal-refusal.ensures c.if-refusal-ne0.true
+pub returns-then-refusal-ne0-clause-writes : goal.returns-then-refusal-ne0-clause-writes
+returns-then-refusal-ne0-clause-writes c = writes-refused _ _ c.write_refusal-refusal.ensures c.if-refusal-ne0.true
 
 pub returns-then-refusal-ne0-clause-columns : goal.returns-then-refusal-ne0-clause-columns
 returns-then-refusal-ne0-clause-columns c = (refl, (refl, refl))
@@ -39,8 +39,8 @@ put_header-start-requires c =
     omega (arith, accepted.1, file-length (columns c.args.l.now c.args.a.now c.args.b.now)) in
     omega (arith, room)
 
-pub put_swatches-requires-clause-a_len : goal.put_swatches-requires-clause-a_len
-put_swatches-requires-clause-a_len c =
+pub put_swatches-requires-clause-same_len : goal.put_swatches-requires-clause-same_len
+put_swatches-requires-clause-same_len c =
     let not-refused : write_refusal (columns c.args.l.now c.args.a.now c.args.b.now) (length c.args.file.now) ≡ 0 =
     sym c.write_refusal-refusal.ensures ∙ c.if-refusal-ne0.false in
     let accepted : let d = columns c.args.l.now c.args.a.now c.args.b.now in (deck_refusal d ≡ 0) × (length (file_of d) ≤ length c.args.file.now) =
@@ -49,8 +49,8 @@ put_swatches-requires-clause-a_len c =
     columns-sizes _ _ _ accepted.0 in
     (sizes.a_is, sizes.b_is)
 
-pub put_swatches-requires-clause-l_in_bounds : goal.put_swatches-requires-clause-l_in_bounds
-put_swatches-requires-clause-l_in_bounds c =
+pub put_swatches-requires-clause-room : goal.put_swatches-requires-clause-room
+put_swatches-requires-clause-room c =
     let not-refused : write_refusal (columns c.args.l.now c.args.a.now c.args.b.now) (length c.args.file.now) ≡ 0 =
     sym c.write_refusal-refusal.ensures ∙ c.if-refusal-ne0.false in
     let accepted : let d = columns c.args.l.now c.args.a.now c.args.b.now in (deck_refusal d ≡ 0) × (length (file_of d) ≤ length c.args.file.now) =
@@ -67,4 +67,4 @@ returns c =
     write-accepts _ _ not-refused in
     let sizes : Sizes c.args.l.now c.args.a.now c.args.b.now =
     columns-sizes _ _ _ accepted.0 in
-    let done = writes-done _ _ (columns-kept _ _ _ sizes) not-refused in record { fact = done c.put_header-start.ensures c.put_swatches.ensures; columns = (refl, (refl, refl)) }
+    let done = writes-done _ _ (columns-kept _ _ _ sizes) not-refused in record { writes = done c.put_header-start.ensures c.put_swatches.ensures; columns = (refl, (refl, refl)) }

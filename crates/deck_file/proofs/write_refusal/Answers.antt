@@ -7,20 +7,20 @@ use Rattle.deck_file.proofs.RoundTrip.{columns-sizes}
 use Rattle.deck_file.proofs.write_refusal.Goals as goal
 
 pub returns-then-by_deck-ne0 : goal.returns-then-by_deck-ne0
-returns-then-by_deck-ne0 c = write-by-deck _ _ c.deck_refusal-by_deck.ensures.value c.if-by_deck-ne0.true
+returns-then-by_deck-ne0 c = write-by-deck _ _ c.deck_refusal-by_deck.ensures.refusal c.if-by_deck-ne0.true
 
 pub overflow_mul-l : goal.overflow_mul-l
 overflow_mul-l c =
     let sizes : Sizes c.args.l.now c.args.a.now c.args.b.now =
-    columns-sizes _ _ _ (sym c.deck_refusal-by_deck.ensures.value ∙ c.if-by_deck-ne0.false) in
+    columns-sizes _ _ _ (sym c.deck_refusal-by_deck.ensures.refusal ∙ c.if-by_deck-ne0.false) in
     omega (arith, sizes.most)
 
 pub overflow_add-l : goal.overflow_add-l
 overflow_add-l c =
     let sizes : Sizes c.args.l.now c.args.a.now c.args.b.now =
-    columns-sizes _ _ _ (sym c.deck_refusal-by_deck.ensures.value ∙ c.if-by_deck-ne0.false) in
+    columns-sizes _ _ _ (sym c.deck_refusal-by_deck.ensures.refusal ∙ c.if-by_deck-ne0.false) in
     omega (arith, sizes.most)
 
 pub returns : goal.returns
 returns c =
-    write-by_room _ _ (sym c.deck_refusal-by_deck.ensures.value ∙ c.if-by_deck-ne0.false) c.room_refusal.ensures
+    write-by_room _ _ (sym c.deck_refusal-by_deck.ensures.refusal ∙ c.if-by_deck-ne0.false) c.room_refusal.ensures

@@ -20,8 +20,8 @@ next t d p h = p.entry _ (omega arith)
 pub returns-then-distance-ge-END : goal.returns-then-distance-ge-END
 returns-then-distance-ge-END c = sym (gaussian-beyond _ (omega arith))
 
-pub between-requires-clause-next_le_here : goal.between-requires-clause-next_le_here
-between-requires-clause-next_le_here c =
+pub between-requires-clause-entry_bounds : goal.between-requires-clause-entry_bounds
+between-requires-clause-entry_bounds c =
     let below = c.if-distance-ge-END.false in
     neighbours-in _ _ _ below (here _ _ c.requires below) (next _ _ c.requires below)
 

@@ -21,8 +21,8 @@ next c = c.part_at-p.ensures.entry _ (omega arith) ∙ ap gaussian_entry (omega 
 pub returns-then-distance-ge-END : goal.returns-then-distance-ge-END
 returns-then-distance-ge-END c = sym (gaussian-beyond _ (omega arith))
 
-pub between-requires-clause-next_le_here : goal.between-requires-clause-next_le_here
-between-requires-clause-next_le_here c = neighbours-in _ _ _ (omega arith) (here c) (next c)
+pub between-requires-clause-entry_bounds : goal.between-requires-clause-entry_bounds
+between-requires-clause-entry_bounds c = neighbours-in _ _ _ (omega arith) (here c) (next c)
 
 pub returns : goal.returns
 returns c =

@@ -6,7 +6,7 @@ use Rattle.hue.proofs.+tenth.Goals as goal
 use Rattle.hue.proofs.+tenth.Goals.{then-reached, else-reached}
 
 pub returns-then-width-eq0 : goal.returns-then-width-eq0
-returns-then-width-eq0 t c = met _ c.if-width-eq0.true c.requires.low_value
+returns-then-width-eq0 t c = met _ c.if-width-eq0.true c.requires.low_reached
 
 pub returns : goal.returns
 returns t c =
@@ -19,6 +19,6 @@ returns t c =
           (sym c.reached.ensures ∙ w.if-reached.true) w.next-is
       | else-reached w ↦
           lower s.x s.y s.low s.width refl c.requires.width_bound
-          c.requires.low_value (sym c.reached.ensures ∙ w.if-reached.false) w.next-is
+          c.requires.low_reached (sym c.reached.ensures ∙ w.if-reached.false) w.next-is
     ] in
     c.tenth.ensures ∙ sym kept.same

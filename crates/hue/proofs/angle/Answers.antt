@@ -21,8 +21,8 @@ overflow_mul-result-2 c = omega (arith, found _ _ c.tenth_of-k.ensures)
 pub overflow_add-result : goal.overflow_add-result
 overflow_add-result c = omega (arith, found _ _ c.tenth_of-k.ensures)
 
-pub rest-requires-clause-k_bound : goal.rest-requires-clause-k_bound
-rest-requires-clause-k_bound c = (omega (arith, found _ _ c.tenth_of-k.ensures), (found _ _ c.tenth_of-k.ensures).holds)
+pub rest-requires-clause-k_reached : goal.rest-requires-clause-k_reached
+rest-requires-clause-k_reached c = (omega (arith, found _ _ c.tenth_of-k.ensures), (found _ _ c.tenth_of-k.ensures).holds)
 
 pub overflow_add-result-2 : goal.overflow_add-result-2
 overflow_add-result-2 c =

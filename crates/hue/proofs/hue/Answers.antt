@@ -41,18 +41,18 @@ returns-then-q-eq-GREY c = sym (hue-grey _ _ _ (quadrant-grey _ _ ∙ eq-eqb _ _
 pub angle-requires-clause-q_bound : goal.angle-requires-clause-q_bound
 angle-requires-clause-q_bound c = omega (arith, quadrant-le (int c.args.a) (int c.args.b))
 
-pub angle-requires-clause-x_le_chroma : goal.angle-requires-clause-x_le_chroma
-angle-requires-clause-x_le_chroma c =
+pub angle-requires-clause-xy_le_chroma : goal.angle-requires-clause-xy_le_chroma
+angle-requires-clause-xy_le_chroma c =
     let even : Bool = eqb (c.quadrant-q.result % 2) 0 in (
-      le_trans (le_of_eq c.pick-x.ensures) (cond-le even c.requires.n_le_chroma.0 c.requires.n_le_chroma.1),
-      le_trans (le_of_eq c.pick-y.ensures) (cond-le even c.requires.n_le_chroma.1 c.requires.n_le_chroma.0),
+      le_trans (le_of_eq c.pick-x.ensures) (cond-le even c.requires.ab_le_chroma.0 c.requires.ab_le_chroma.1),
+      le_trans (le_of_eq c.pick-y.ensures) (cond-le even c.requires.ab_le_chroma.1 c.requires.ab_le_chroma.0),
     )
 
-pub angle-requires-clause-chroma_nonzero : goal.angle-requires-clause-chroma_nonzero
-angle-requires-clause-chroma_nonzero c =
+pub angle-requires-clause-chroma_bounds : goal.angle-requires-clause-chroma_bounds
+angle-requires-clause-chroma_bounds c =
     let positive : 0 < c.args.chroma =
     chroma-pos c.args.a c.args.b c.args.chroma c.quadrant-q.ensures c.if-q-eq-GREY.false
-    c.requires.n_le_chroma.0 c.requires.n_le_chroma.1 in
+    c.requires.ab_le_chroma.0 c.requires.ab_le_chroma.1 in
     (positive, c.requires.chroma_bound)
 
 pub returns : goal.returns

@@ -8,19 +8,19 @@ use Rattle.hue.proofs.Halving.{reached-le}
 use Rattle.hue.proofs.rest.Goals as goal
 
 pub overflow_mul-v : goal.overflow_mul-v
-overflow_mul-v c = omega (arith, mul-le-mul c.requires.x_le_chroma.1 c.entry.ensures.size)
+overflow_mul-v c = omega (arith, mul-le-mul c.requires.xy_le_chroma.1 c.entry.ensures.size)
 
 pub overflow_mul-v-2 : goal.overflow_mul-v-2
-overflow_mul-v-2 c = omega (arith, mul-le-mul c.requires.x_le_chroma.0 c.entry-2.ensures.size)
+overflow_mul-v-2 c = omega (arith, mul-le-mul c.requires.xy_le_chroma.0 c.entry-2.ensures.size)
 
 pub overflow_sub-v : goal.overflow_sub-v
-overflow_sub-v c = reached-le _ _ _ c.requires.k_bound.1 c.entry-2.ensures.is c.entry.ensures.is
+overflow_sub-v c = reached-le _ _ _ c.requires.k_reached.1 c.entry-2.ensures.is c.entry.ensures.is
 
 pub overflow_mul-degrees : goal.overflow_mul-degrees
 overflow_mul-degrees c =
     let v : (c.args.y * c.entry.result - c.args.x * c.entry-2.result) / c.args.chroma ≤ 1000000000 =
     div-le_of_le-mul c.args.chroma
-    (le_trans (sub-le _ _) (mul-le-mul c.requires.x_le_chroma.1 c.entry.ensures.size)) in
+    (le_trans (sub-le _ _) (mul-le-mul c.requires.xy_le_chroma.1 c.entry.ensures.size)) in
     omega arith
 
 pub returns-then-degrees-lt99999 : goal.returns-then-degrees-lt99999

@@ -17,8 +17,8 @@ returns-then-before-after c =
     let none = sym c.reached-after.ensures ∙ (first_alone _ _ c.if-before-after.true).1 in
     c.tenth.ensures ∙ sym (cut c.args.x c.args.y (k + 1) (k - 1 + 1) 899 (omega arith) (omega arith) (omega arith) none)
 
-pub tenth-requires-2-clause-low_value : goal.tenth-requires-2-clause-low_value
-tenth-requires-2-clause-low_value c = reaches-first _ _
+pub tenth-requires-2-clause-low_reached : goal.tenth-requires-2-clause-low_reached
+tenth-requires-2-clause-low_reached c = reaches-first _ _
 
 pub returns : goal.returns
 unfolding tenth_of

@@ -22,13 +22,13 @@ pub returns-then-none : goal.returns-then-none
 unfolding hue_difference_of
 returns-then-none c = record { is = c.natural.ensures.is ∙ rw c.if-none.true; size = omega arith }
 
-pub hue_size-requires-clause-le_c1 : goal.hue_size-requires-clause-le_c1
-hue_size-requires-clause-le_c1 c = c.requires.le_c1 c.if-none.false
+pub hue_size-requires-clause-not_grey : goal.hue_size-requires-clause-not_grey
+hue_size-requires-clause-not_grey c = c.requires.not_grey c.if-none.false
 
 pub returns : goal.returns
 unfolding hue_difference_of int
 returns c =
     record {
       is = rw (c.if-none.false, c.hue_size.ensures);
-      size = rw c.hue_size.ensures (size-le c.args.a1 c.args.b1 _ c.args.a2 c.args.b2 _ c.requires.primed c.requires.primed_2);
+      size = rw c.hue_size.ensures (size-le c.args.a1 c.args.b1 _ c.args.a2 c.args.b2 _ c.requires.first_primed c.requires.second_primed);
     }

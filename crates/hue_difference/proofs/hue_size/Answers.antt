@@ -26,19 +26,19 @@ module _ (a1 b1 : ℤ) (c1 : ℕ) (a2 b2 : ℤ) (c2 : ℕ) (d : Int) (m : ℕ) (
   size_above x f h = rw (r, ← e, ← f, h, plus-size (c1 * c2) (int d) h, int-size d, int-size x)
 
 pub dot-d-requires : goal.dot-d-requires
-dot-d-requires c = omega (arith, dot-sizes c.requires.primed c.requires.primed_2)
+dot-d-requires c = omega (arith, dot-sizes c.requires.first_primed c.requires.second_primed)
 
 pub overflow_mul-c1 : goal.overflow_mul-c1
-overflow_mul-c1 c = omega (arith, products-le c.requires.primed c.requires.primed_2)
+overflow_mul-c1 c = omega (arith, products-le c.requires.first_primed c.requires.second_primed)
 
 pub overflow_add-c1 : goal.overflow_add-c1
 overflow_add-c1 c =
-    omega (arith, products-le c.requires.primed c.requires.primed_2, dot-sizes c.requires.primed c.requires.primed_2, c.dot-d.ensures.size)
+    omega (arith, products-le c.requires.first_primed c.requires.second_primed, dot-sizes c.requires.first_primed c.requires.second_primed, c.dot-d.ensures.size)
 
 pub overflow_mul-result : goal.overflow_mul-result
 overflow_mul-result c =
     let h : (c.args.c1 * c.args.c2 + c.dot-d.result.n) / 2 < 2 ^ 64 =
-    omega (arith, products-le c.requires.primed c.requires.primed_2, dot-sizes c.requires.primed c.requires.primed_2, c.dot-d.ensures.size) in
+    omega (arith, products-le c.requires.first_primed c.requires.second_primed, dot-sizes c.requires.first_primed c.requires.second_primed, c.dot-d.ensures.size) in
     omega (arith, root-lt-pow _ h, c.isqrt-root.ensures.is)
 
 pub returns-then-is_negative : goal.returns-then-is_negative
@@ -48,12 +48,12 @@ returns-then-is_negative c =
 
 pub cross-x-requires : goal.cross-x-requires
 cross-x-requires c =
-    omega (arith, cross-sizes c.requires.primed c.requires.primed_2)
+    omega (arith, cross-sizes c.requires.first_primed c.requires.second_primed)
 
 pub nonzero_div-result : goal.nonzero_div-result
 nonzero_div-result c =
     let n = c.args.c1 * c.args.c2 + c.dot-d.result.n in
-    let h : 1 * 1 ≤ n / 2 = omega (arith, mul-le-mul c.requires.le_c1.0 c.requires.le_c1.1) in
+    let h : 1 * 1 ≤ n / 2 = omega (arith, mul-le-mul c.requires.not_grey.0 c.requires.not_grey.1) in
     omega (arith, root-largest (n / 2) 1 h, c.isqrt-root.ensures.is)
 
 pub returns : goal.returns

@@ -37,13 +37,13 @@ module _ (a1 b1 a2 b2 : ℤ) {q1 q2 : ℕ} {x : ℤ} (e1 : q1 ≡ quadrant_of a1
 
 pub cross-x-requires : goal.cross-x-requires
 cross-x-requires c =
-    omega (arith, mul-le-mul c.requires.n_bound.0 c.requires.n_bound_2.1, mul-le-mul c.requires.n_bound_2.0 c.requires.n_bound.1)
+    omega (arith, mul-le-mul c.requires.first_bounds.0 c.requires.second_bounds.1, mul-le-mul c.requires.second_bounds.0 c.requires.first_bounds.1)
 
 pub returns : goal.returns
 returns c =
-    let o = opposite-by _ _ _ _ c.requires.q1_value c.requires.q2_value c.cross-x.ensures.is c.is_zero-zero.ensures in
+    let o = opposite-by _ _ _ _ c.requires.first_quadrant c.requires.second_quadrant c.cross-x.ensures.is c.is_zero-zero.ensures in
     record {
-      far_is = far-by _ _ _ _ c.requires.q1_value c.requires.q2_value c.cross-x.ensures.is c.is_positive-positive.ensures c.is_negative-negative.ensures c.later-second.ensures c.later-first.ensures;
-      none_is = none-by _ _ _ _ c.requires.q1_value c.requires.q2_value c.cross-x.ensures.is c.is_zero-zero.ensures o;
-      negative_is = minus-by _ _ _ _ c.requires.q1_value c.requires.q2_value c.cross-x.ensures.is c.is_positive-positive.ensures c.is_negative-negative.ensures c.later-second.ensures o c.is_minus.ensures;
+      far_is = far-by _ _ _ _ c.requires.first_quadrant c.requires.second_quadrant c.cross-x.ensures.is c.is_positive-positive.ensures c.is_negative-negative.ensures c.later-second.ensures c.later-first.ensures;
+      none_is = none-by _ _ _ _ c.requires.first_quadrant c.requires.second_quadrant c.cross-x.ensures.is c.is_zero-zero.ensures o;
+      negative_is = minus-by _ _ _ _ c.requires.first_quadrant c.requires.second_quadrant c.cross-x.ensures.is c.is_positive-positive.ensures c.is_negative-negative.ensures c.later-second.ensures o c.is_minus.ensures;
     }

@@ -5,9 +5,9 @@ use Rattle.lahsufiq.proofs.lq_deck_read.Goals as goal
 
 pub returns-clause-read : goal.returns-clause-read
 returns-clause-read c = record {
-  refusal = c.transfer_number.ensures ∙ ap transfer_number c.read-found.ensures.fact.answer;
-  handed = c.transfer_size.ensures ∙ ap transfer_size c.read-found.ensures.fact.answer;
-  read = rw c.read-found.ensures.fact.answer at c.read-found.ensures.fact;
+  refusal = c.transfer_number.ensures ∙ ap transfer_number c.read-found.ensures.reads.answer;
+  handed = c.transfer_size.ensures ∙ ap transfer_size c.read-found.ensures.reads.answer;
+  read = rw c.read-found.ensures.reads.answer at c.read-found.ensures.reads;
 }
 
 pub returns-clause-file : goal.returns-clause-file

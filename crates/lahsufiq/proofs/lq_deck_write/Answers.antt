@@ -5,9 +5,9 @@ use Rattle.lahsufiq.proofs.lq_deck_write.Goals as goal
 
 pub returns-clause-write : goal.returns-clause-write
 returns-clause-write c = record {
-  refusal = c.transfer_number.ensures ∙ ap transfer_number c.write-written.ensures.fact.answer;
-  handed = c.transfer_size.ensures ∙ ap transfer_size c.write-written.ensures.fact.answer;
-  written = rw c.write-written.ensures.fact.answer at c.write-written.ensures.fact;
+  refusal = c.transfer_number.ensures ∙ ap transfer_number c.write-written.ensures.writes.answer;
+  handed = c.transfer_size.ensures ∙ ap transfer_size c.write-written.ensures.writes.answer;
+  written = rw c.write-written.ensures.writes.answer at c.write-written.ensures.writes;
 }
 
 pub returns-clause-columns : goal.returns-clause-columns

@@ -6,9 +6,9 @@ use Rattle.lahsufiq.proofs.lq_search.Goals as goal
 
 pub returns-clause-search : goal.returns-clause-search
 returns-clause-search c = record {
-  refusal = c.found_number.ensures ∙ ap number_of c.search-found.ensures.fact.answer;
-  handed = c.found_count.ensures ∙ ap handed_count c.search-found.ensures.fact.answer;
-  searched = rw c.search-found.ensures.fact.answer at c.search-found.ensures.fact;
+  refusal = c.found_number.ensures ∙ ap number_of c.search-found.ensures.searches.answer;
+  handed = c.found_count.ensures ∙ ap handed_count c.search-found.ensures.searches.answer;
+  searched = rw c.search-found.ensures.searches.answer at c.search-found.ensures.searches;
 }
 
 pub returns-clause-columns : goal.returns-clause-columns

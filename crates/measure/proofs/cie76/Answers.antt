@@ -21,11 +21,11 @@ fixed_reading-s-requires c = (none c).0
 pub fixed_reading-t-requires : goal.fixed_reading-t-requires
 fixed_reading-t-requires c = (none c.before).1
 
-pub cie76-requires-clause-sample_in : goal.cie76-requires-clause-sample_in
-cie76-requires-clause-sample_in c = lab-in _ _ c.fixed_reading-s.ensures (none c.before.before).0
+pub cie76-requires-clause-s_in : goal.cie76-requires-clause-s_in
+cie76-requires-clause-s_in c = lab-in _ _ c.fixed_reading-s.ensures (none c.before.before).0
 
-pub cie76-requires-clause-sample_in_2 : goal.cie76-requires-clause-sample_in_2
-cie76-requires-clause-sample_in_2 c = lab-in _ _
+pub cie76-requires-clause-t_in : goal.cie76-requires-clause-t_in
+cie76-requires-clause-t_in c = lab-in _ _
     c.fixed_reading-t.ensures (none c.before.before).1
 
 pub returns : goal.returns

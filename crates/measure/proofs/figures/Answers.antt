@@ -39,7 +39,7 @@ prepared-t-requires c = (none c.before.before).second
 
 pub figures-r-requires : goal.figures-r-requires
 figures-r-requires c =
-    let w = subst WeightsIn (sym c.fixed_weights-w.ensures) (weights_in _ (none c.before.before.before.before.before.before.before).weights) in record { sine_table = (c.sine_table-sines.ensures, c.gaussian_table-gaussians.ensures); weights_in = (w, (c.prepared-s.ensures.ready, c.prepared-t.ensures.ready)) }
+    let w = subst WeightsIn (sym c.fixed_weights-w.ensures) (weights_in _ (none c.before.before.before.before.before.before.before).weights) in record { tables = (c.sine_table-sines.ensures, c.gaussian_table-gaussians.ensures); ready = (w, (c.prepared-s.ensures.ready, c.prepared-t.ensures.ready)) }
 
 pub figures_row-requires : goal.figures_row-requires
 figures_row-requires c =

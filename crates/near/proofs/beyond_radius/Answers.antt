@@ -12,8 +12,8 @@ use Rattle.near.proofs.beyond_radius.Goals as goal
 pub left_tolerance-left-requires-clause-weight_in : goal.left_tolerance-left-requires-clause-weight_in
 left_tolerance-left-requires-clause-weight_in c = c.requires.worked.kl
 
-pub left_tolerance-left-requires-clause-tolerance_bound : goal.left_tolerance-left-requires-clause-tolerance_bound
-left_tolerance-left-requires-clause-tolerance_bound c = (c.requires.worked.tolerance, omega (arith, c.size-d.ensures.size, c.natural_difference.ensures.size, lab-l _ c.requires.worked.reading, lab-l _ c.requires.sample_in))
+pub left_tolerance-left-requires-clause-bounds : goal.left_tolerance-left-requires-clause-bounds
+left_tolerance-left-requires-clause-bounds c = (c.requires.worked.tolerance, omega (arith, c.size-d.ensures.size, c.natural_difference.ensures.size, lab-l _ c.requires.worked.reading, lab-l _ c.requires.sample_in))
 
 pub overflow_mul-result : goal.overflow_mul-result
 overflow_mul-result c = omega (arith, square_le c.radius-r.ensures.size)

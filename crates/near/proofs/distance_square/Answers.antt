@@ -13,17 +13,17 @@ use Rattle.near.proofs.distance_square.Goals.{After-size-a, After-size-b}
 
 a_le : (c : After-size-a) → c.size-a.result ≤ 2560000
 a_le c =
-    omega (arith, c.size-a.ensures.size, c.difference.ensures.size, lab-a _ c.requires.sample_in, lab-a _ c.requires.sample_in_2)
+    omega (arith, c.size-a.ensures.size, c.difference.ensures.size, lab-a _ c.requires.s_in, lab-a _ c.requires.t_in)
 
 b_le : (c : After-size-b) → c.size-b.result ≤ 2560000
 b_le c =
-    omega (arith, c.size-b.ensures.size, c.difference-2.ensures.size, lab-b _ c.requires.sample_in, lab-b _ c.requires.sample_in_2)
+    omega (arith, c.size-b.ensures.size, c.difference-2.ensures.size, lab-b _ c.requires.s_in, lab-b _ c.requires.t_in)
 
 pub difference-requires : goal.difference-requires
-difference-requires c = omega (arith, lab-a _ c.requires.sample_in, lab-a _ c.requires.sample_in_2)
+difference-requires c = omega (arith, lab-a _ c.requires.s_in, lab-a _ c.requires.t_in)
 
 pub difference-requires-2 : goal.difference-requires-2
-difference-requires-2 c = omega (arith, lab-b _ c.requires.sample_in, lab-b _ c.requires.sample_in_2)
+difference-requires-2 c = omega (arith, lab-b _ c.requires.s_in, lab-b _ c.requires.t_in)
 
 pub overflow_mul-result : goal.overflow_mul-result
 overflow_mul-result c = omega (arith, square_le (a_le c.before.before.before.before))

@@ -14,12 +14,12 @@ entry-requires c = c.requires.spans _ (omega arith)
 
 pub loop-lo-preserved-then-entry-bound : goal.loop-lo-preserved-then-entry-bound
 loop-lo-preserved-then-entry-bound c =
-    bracket-upper _ _ _ c.requires.n_value _ _ _ c.loop-lo.invariant (omega arith) (omega arith)
+    bracket-upper _ _ _ c.requires.rises _ _ _ c.loop-lo.invariant (omega arith) (omega arith)
     (read_back c.entry.type_inv c.entry.ensures) c.if-entry-bound.true
 
 pub loop-lo-preserved : goal.loop-lo-preserved
 loop-lo-preserved c =
-    bracket-lower _ _ _ c.requires.n_value _ _ _ c.loop-lo.invariant (omega arith) (omega arith)
+    bracket-lower _ _ _ c.requires.rises _ _ _ c.loop-lo.invariant (omega arith) (omega arith)
     (read_back c.entry.type_inv c.entry.ensures) c.if-entry-bound.false
 
 pub returns : goal.returns

@@ -8,6 +8,6 @@ taken-list-requires c =
     let n = length c.args.records.now in
     (omega (arith, at_most-le n, c.at_most.ensures), omega (arith, at_most-most n, c.at_most.ensures))
 
-pub returns-clause-fact : goal.returns-clause-fact
-returns-clause-fact c =
+pub returns-clause-searches : goal.returns-clause-searches
+returns-clause-searches c =
     search-copied _ _ (rw c.at_most.ensures at c.taken-list.ensures) _ _ _ _ c.search_taken.ensures

@@ -18,4 +18,4 @@ slice_bounds-search-end c =
 pub returns : goal.returns
 returns c =
     let s : length c.args.list ≡ most_swatches = search rules in
-    rw (ap (λ m. take m c.args.list) c.at_most-m.ensures ∙ take-at_most c.args.n c.args.list s) at c.search.ensures.fact
+    rw (ap (λ m. take m c.args.list) c.at_most-m.ensures ∙ take-at_most c.args.n c.args.list s) at c.search.ensures.searches

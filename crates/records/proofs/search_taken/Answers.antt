@@ -9,8 +9,8 @@ put_colours-requires-clause-swatches_len c =
     let s : length c.args.list ≡ most_swatches = search rules in
     (s, omega (arith, at_most-most c.args.n, c.at_most.ensures))
 
-pub put_colours-requires-clause-n_in_bounds : goal.put_colours-requires-clause-n_in_bounds
-put_colours-requires-clause-n_in_bounds c =
+pub put_colours-requires-clause-room : goal.put_colours-requires-clause-room
+put_colours-requires-clause-room c =
     let m : c.at_most.result ≤ 4096 = omega (arith, at_most-most c.args.n, c.at_most.ensures) in
     (m, (m, m))
 

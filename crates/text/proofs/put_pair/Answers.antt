@@ -31,8 +31,8 @@ returns-then-n-eq0 c =
     (c.work-six.ensures ∙ (λ i. figures_line (c.sample_of.ensures.is i) (c.sample_of-then-n-eq0.ensures.is i)) ∙ e)
     c.put_six.ensures
 
-pub put_refused-requires-clause-n_bound : goal.put_refused-requires-clause-n_bound
-put_refused-requires-clause-n_bound c =
+pub put_refused-requires-clause-one_digit : goal.put_refused-requires-clause-one_digit
+put_refused-requires-clause-one_digit c =
     refusal-small _ _ (refusal (colour_of c.args.s) (colour_of c.args.t) c.first_of-n.ensures c.colour_refusal.ensures c.colour_refusal-2.ensures)
 
 pub returns : goal.returns

@@ -26,14 +26,14 @@ returns-then-out-written-lt-ANSWER_MOST c =
 pub slice_bounds-put_answer-end : goal.slice_bounds-put_answer-end
 slice_bounds-put_answer-end c = sym c.loop-read.invariant.array
 
-pub put_answer-written-requires-clause-sine_table : goal.put_answer-written-requires-clause-sine_table
-put_answer-written-requires-clause-sine_table c = c.requires
+pub put_answer-written-requires-clause-tables : goal.put_answer-written-requires-clause-tables
+put_answer-written-requires-clause-tables c = c.requires
 
 pub put_answer-written-requires-clause-line_len : goal.put_answer-written-requires-clause-line_len
 put_answer-written-requires-clause-line_len c = c.loop-read.invariant.array
 
-pub put_answer-written-requires-clause-answer_most_in_bounds : goal.put_answer-written-requires-clause-answer_most_in_bounds
-put_answer-written-requires-clause-answer_most_in_bounds c = omega (arith, c.loop-read.invariant.text.next, c.loop-read.invariant.text.size)
+pub put_answer-written-requires-clause-room : goal.put_answer-written-requires-clause-room
+put_answer-written-requires-clause-room c = omega (arith, c.loop-read.invariant.text.next, c.loop-read.invariant.text.size)
 
 pub push-len-requires : goal.push-len-requires
 push-len-requires c = c.loop-read.invariant.array

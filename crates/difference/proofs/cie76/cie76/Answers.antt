@@ -15,9 +15,9 @@ use Rattle.difference.proofs.cie76.cie76.Goals as goal
 sizes : (c : goal.After-difference-b) → (c.natural_difference-l.result.n ≤ 1000000) ×
     (c.difference-a.result.n ≤ 2560000) × (c.difference-b.result.n ≤ 2560000)
 sizes c = (
-  omega (arith, c.natural_difference-l.ensures.most, lab-l _ c.requires.sample_in, lab-l _ c.requires.sample_in_2),
-  omega (arith, c.difference-a.ensures.size, lab-a _ c.requires.sample_in, lab-a _ c.requires.sample_in_2),
-  omega (arith, c.difference-b.ensures.size, lab-b _ c.requires.sample_in, lab-b _ c.requires.sample_in_2),
+  omega (arith, c.natural_difference-l.ensures.most, lab-l _ c.requires.s_in, lab-l _ c.requires.t_in),
+  omega (arith, c.difference-a.ensures.size, lab-a _ c.requires.s_in, lab-a _ c.requires.t_in),
+  omega (arith, c.difference-b.ensures.size, lab-b _ c.requires.s_in, lab-b _ c.requires.t_in),
 )
 
 under-root : (c : goal.After-sum_of_squares) → 10000 * c.sum_of_squares.result ≤ 1400000000 * 1400000000
@@ -26,10 +26,10 @@ under-root c =
     omega (arith, c.sum_of_squares.ensures.size, square_le h.0, square_le h.1, square_le h.2)
 
 pub difference-a-requires : goal.difference-a-requires
-difference-a-requires c = omega (arith, lab-a _ c.requires.sample_in, lab-a _ c.requires.sample_in_2)
+difference-a-requires c = omega (arith, lab-a _ c.requires.s_in, lab-a _ c.requires.t_in)
 
 pub difference-b-requires : goal.difference-b-requires
-difference-b-requires c = omega (arith, lab-b _ c.requires.sample_in, lab-b _ c.requires.sample_in_2)
+difference-b-requires c = omega (arith, lab-b _ c.requires.s_in, lab-b _ c.requires.t_in)
 
 pub sum_of_squares-requires : goal.sum_of_squares-requires
 sum_of_squares-requires c = let h = sizes c in omega arith

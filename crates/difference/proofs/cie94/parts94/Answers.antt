@@ -19,8 +19,8 @@ constants-le Textiles = (omega arith, omega arith)
 
 pub weighting_chroma-chroma-requires : goal.weighting_chroma-chroma-requires
 weighting_chroma-chroma-requires c =
-    let c1 = chroma-in _ c.requires.ready in
-    let c2 = chroma-in _ c.requires.ready_2 in
+    let c1 = chroma-in _ c.requires.s_ready in
+    let c2 = chroma-in _ c.requires.t_ready in
     record { c1_bound = omega (arith, c1, c2); c2_bound = omega (arith, c1, c2) }
 
 pub weighting_function-sc-requires-clause-constant_bound : goal.weighting_function-sc-requires-clause-constant_bound
@@ -38,25 +38,25 @@ weighting_function-sh-requires-clause-c_bound c = c.weighting_chroma-chroma.ensu
 pub parts-requires : goal.parts-requires
 parts-requires c =
     let l : c.natural_difference-l.result.n ≤ 1000000 = omega
-    (arith, c.natural_difference-l.ensures.most, l-in _ c.requires.ready, l-in _ c.requires.ready_2) in
+    (arith, c.natural_difference-l.ensures.most, l-in _ c.requires.s_ready, l-in _ c.requires.t_ready) in
     let dc : c.natural_difference-c.result.n ≤ 2307552816 = omega
-    (arith, c.natural_difference-c.ensures.most, chroma-in _ c.requires.ready, chroma-in _ c.requires.ready_2) in
+    (arith, c.natural_difference-c.ensures.most, chroma-in _ c.requires.s_ready, chroma-in _ c.requires.t_ready) in
     record {
       weights_in = c.requires.weights_in;
-      n_bound = (l, (dc, c.hue_difference94-h.ensures.size));
-      le_sl = omega arith;
-      le_sc = (c.weighting_function-sc.ensures.low, c.weighting_function-sc.ensures.high);
-      le_sh = (c.weighting_function-sh.ensures.low, c.weighting_function-sh.ensures.high);
+      difference_bounds = (l, (dc, c.hue_difference94-h.ensures.size));
+      sl_bounds = omega arith;
+      sc_bounds = (c.weighting_function-sc.ensures.low, c.weighting_function-sc.ensures.high);
+      sh_bounds = (c.weighting_function-sh.ensures.low, c.weighting_function-sh.ensures.high);
     }
 
 pub returns : goal.returns
 unfolding parts94_of lightness_difference chroma_difference plain_of prepared_sample
 returns c =
-    let chroma = c.weighting_chroma-chroma.ensures.is ∙ (λ i. weighting_chroma c.args.comparison (c.requires.ready.chroma i) (c.requires.ready_2.chroma i)) in
+    let chroma = c.weighting_chroma-chroma.ensures.is ∙ (λ i. weighting_chroma c.args.comparison (c.requires.s_ready.chroma i) (c.requires.t_ready.chroma i)) in
     record {
       is = c.parts.ensures.is
           ∙ (λ i. parts_of c.args.w (c.natural_difference-l.ensures.is i)
-          ((c.natural_difference-c.ensures.is ∙ (λ j. pos (c.requires.ready_2.chroma j) -ℤ pos (c.requires.ready.chroma j))) i)
+          ((c.natural_difference-c.ensures.is ∙ (λ j. pos (c.requires.t_ready.chroma j) -ℤ pos (c.requires.s_ready.chroma j))) i)
           (c.hue_difference94-h.ensures.is i) 1000000000
           ((c.weighting_function-sc.ensures.is ∙ (λ j. weighting_function (c.chroma_constant.ensures j) (chroma j))) i)
           ((c.weighting_function-sh.ensures.is ∙ (λ j. weighting_function (c.hue_constant.ensures j) (chroma j))) i));

@@ -15,7 +15,7 @@ hue_figures-hues-requires-clause-coloured c = (c.points_of-x.ensures.p.coloured,
 
 pub finish-r-requires : goal.finish-r-requires
 finish-r-requires c = let e = c.gaussian_once-e.ensures ∙ ap gaussian_of c.hue_distance.ensures in
-    record { sine_table = c.sine_table-sines.ensures; e_value = e; weights_in = c.requires; points = c.points_of-x.ensures; hue_figures = c.hue_figures-hues.ensures }
+    record { sine_table = c.sine_table-sines.ensures; gaussian = e; ready = c.requires; points = c.points_of-x.ensures; hue_figures = c.hue_figures-hues.ensures }
 
 pub returns : goal.returns
 returns c = millionths-are _ _ _ _ c.finish-r.ensures

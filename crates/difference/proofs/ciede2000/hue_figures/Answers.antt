@@ -16,26 +16,26 @@ use Rattle.difference.proofs.ciede2000.hue_figures.Goals as goal
 hue-under : (p : Coordinates) {r : ℕ} → r ≡ hue_of (int p.a) (int p.b) p.chroma → r < 360000000
 hue-under p e = subst (λ (n : ℕ). n < 360000000) (sym e) (hue-lt (int p.a) (int p.b) p.chroma)
 
-pub side_of-side-requires-clause-n_bound : goal.side_of-side-requires-clause-n_bound
-side_of-side-requires-clause-n_bound c = (size_of _ (a_in _ c.requires.ready.0), size_of _ (b-in _ c.requires.ready.0))
+pub side_of-side-requires-clause-first_bounds : goal.side_of-side-requires-clause-first_bounds
+side_of-side-requires-clause-first_bounds c = (size_of _ (a_in _ c.requires.ready.0), size_of _ (b-in _ c.requires.ready.0))
 
-pub side_of-side-requires-clause-n_bound_2 : goal.side_of-side-requires-clause-n_bound_2
-side_of-side-requires-clause-n_bound_2 c = (size_of _ (a_in _ c.requires.ready.1), size_of _ (b-in _ c.requires.ready.1))
+pub side_of-side-requires-clause-second_bounds : goal.side_of-side-requires-clause-second_bounds
+side_of-side-requires-clause-second_bounds c = (size_of _ (a_in _ c.requires.ready.1), size_of _ (b-in _ c.requires.ready.1))
 
-pub side_of-side-requires-clause-q1_value : goal.side_of-side-requires-clause-q1_value
-side_of-side-requires-clause-q1_value c = c.requires.ready.0.quadrant
+pub side_of-side-requires-clause-first_quadrant : goal.side_of-side-requires-clause-first_quadrant
+side_of-side-requires-clause-first_quadrant c = c.requires.ready.0.quadrant
 
-pub side_of-side-requires-clause-q2_value : goal.side_of-side-requires-clause-q2_value
-side_of-side-requires-clause-q2_value c = c.requires.ready.1.quadrant
+pub side_of-side-requires-clause-second_quadrant : goal.side_of-side-requires-clause-second_quadrant
+side_of-side-requires-clause-second_quadrant c = c.requires.ready.1.quadrant
 
-pub hue_difference-difference-requires-clause-primed : goal.hue_difference-difference-requires-clause-primed
-hue_difference-difference-requires-clause-primed c = c.requires.coloured.0.bounded
+pub hue_difference-difference-requires-clause-first_primed : goal.hue_difference-difference-requires-clause-first_primed
+hue_difference-difference-requires-clause-first_primed c = c.requires.coloured.0.bounded
 
-pub hue_difference-difference-requires-clause-primed_2 : goal.hue_difference-difference-requires-clause-primed_2
-hue_difference-difference-requires-clause-primed_2 c = c.requires.coloured.1.bounded
+pub hue_difference-difference-requires-clause-second_primed : goal.hue_difference-difference-requires-clause-second_primed
+hue_difference-difference-requires-clause-second_primed c = c.requires.coloured.1.bounded
 
-pub hue_difference-difference-requires-clause-le_c1 : goal.hue_difference-difference-requires-clause-le_c1
-hue_difference-difference-requires-clause-le_c1 c = both-coloured c.args.s c.args.t _ _ _ c.side_of-side.ensures c.requires.coloured.0 c.requires.coloured.1
+pub hue_difference-difference-requires-clause-not_grey : goal.hue_difference-difference-requires-clause-not_grey
+hue_difference-difference-requires-clause-not_grey c = both-coloured c.args.s c.args.t _ _ _ c.side_of-side.ensures c.requires.coloured.0 c.requires.coloured.1
 
 pub mean_hue-mean-requires : goal.mean_hue-mean-requires
 mean_hue-mean-requires c = (

@@ -3,8 +3,8 @@ use Rattle.signed.proofs.SignedLaws.{size_of}
 use Rattle.difference.proofs.Points.{a_in, b-in, point-primed}
 use Rattle.difference.proofs.ciede2000.primed.Goals as goal
 
-pub primed_a-a-requires-clause-n_bound : goal.primed_a-a-requires-clause-n_bound
-primed_a-a-requires-clause-n_bound c = size_of _ (a_in _ c.requires.ready)
+pub primed_a-a-requires-clause-a_bound : goal.primed_a-a-requires-clause-a_bound
+primed_a-a-requires-clause-a_bound c = size_of _ (a_in _ c.requires.ready)
 
 pub primed_a-a-requires-clause-z_bound : goal.primed_a-a-requires-clause-z_bound
 primed_a-a-requires-clause-z_bound c = c.requires.z_bound

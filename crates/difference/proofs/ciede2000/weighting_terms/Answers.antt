@@ -16,7 +16,7 @@ pub rotation_term-requires-clause-sine_table : goal.rotation_term-requires-claus
 rotation_term-requires-clause-sine_table c = c.requires.sine_table
 
 pub rotation_term-requires-clause-e_bound : goal.rotation_term-requires-clause-e_bound
-rotation_term-requires-clause-e_bound c = le_trans (le_of_eq c.requires.e_value) (gaussian-le _)
+rotation_term-requires-clause-e_bound c = le_trans (le_of_eq c.requires.gaussian) (gaussian-le _)
 
 pub rotation_term-requires-clause-z_bound : goal.rotation_term-requires-clause-z_bound
 rotation_term-requires-clause-z_bound c = le_trans (le_of_eq c.ratio.ensures) (ratio-le _)
@@ -29,5 +29,5 @@ returns c =
       sl = c.lightness_weight.ensures i;
       sc = c.chroma_weight.ensures i;
       sh = (c.hue_weight.ensures ∙ ap (λ (n : ℕ). hue_weight c.args.sum n) c.hue_term-t.ensures) i;
-      r = (c.rotation_term.ensures ∙ (λ j. 2 * c.ratio.ensures j * rotation_sine (c.requires.e_value j) / 1000000000)) i;
+      r = (c.rotation_term.ensures ∙ (λ j. 2 * c.ratio.ensures j * rotation_sine (c.requires.gaussian j) / 1000000000)) i;
     }

@@ -25,12 +25,12 @@ returns c =
         l = le_trans (le_of_eq c.part.ensures.size)
             (quotient_le _ _ 200000000 500000000
             (omega (arith, c.weight.ensures.1))
-            c.weight.ensures.1 (omega (arith, c.requires.n_bound.0)));
+            c.weight.ensures.1 (omega (arith, c.requires.difference_bounds.0)));
         c = le_trans (le_of_eq c.part-2.ensures.size)
             (quotient_le _ _ 461510564 500000000 (omega (arith, c.weight-2.ensures.1))
-            c.weight-2.ensures.1 (omega (arith, c.requires.n_bound.1.0)));
+            c.weight-2.ensures.1 (omega (arith, c.requires.difference_bounds.1.0)));
         h = le_trans (le_of_eq c.part-3.ensures.size)
             (quotient_le _ _ 923021127 500000000 (omega (arith, c.weight-3.ensures.1))
-            c.weight-3.ensures.1 (omega (arith, c.requires.n_bound.1.1)));
+            c.weight-3.ensures.1 (omega (arith, c.requires.difference_bounds.1.1)));
       };
     }

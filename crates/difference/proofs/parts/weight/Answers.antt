@@ -6,8 +6,8 @@ use Rattle.difference.specs.Parts.{weighted}
 use Rattle.difference.proofs.parts.weight.Goals as goal
 
 pub overflow_mul-result : goal.overflow_mul-result
-overflow_mul-result c = omega (arith, mul-le-mul c.requires.weight_in.high c.requires.le_s.1)
+overflow_mul-result c = omega (arith, mul-le-mul c.requires.weight_in.high c.requires.s_bounds.1)
 
 pub returns : goal.returns
 unfolding weighted
-returns c = (refl, omega (arith, mul-le-mul c.requires.weight_in.low c.requires.le_s.0))
+returns c = (refl, omega (arith, mul-le-mul c.requires.weight_in.low c.requires.s_bounds.0))

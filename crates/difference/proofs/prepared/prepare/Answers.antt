@@ -18,11 +18,11 @@ b-in : (s : Lab) → SampleIn (lab_of s) → nat_abs (int s.b) ≤ 1280000
 unfolding lab_of
 b-in s h = h.b
 
-pub chroma-requires-clause-n_bound : goal.chroma-requires-clause-n_bound
-chroma-requires-clause-n_bound c = size_of _ (a_in _ c.requires)
+pub chroma-requires-clause-a_bound : goal.chroma-requires-clause-a_bound
+chroma-requires-clause-a_bound c = size_of _ (a_in _ c.requires)
 
-pub chroma-requires-clause-n_bound_2 : goal.chroma-requires-clause-n_bound_2
-chroma-requires-clause-n_bound_2 c = size_of _ (b-in _ c.requires)
+pub chroma-requires-clause-b_bound : goal.chroma-requires-clause-b_bound
+chroma-requires-clause-b_bound c = size_of _ (b-in _ c.requires)
 
 pub returns : goal.returns
 unfolding lab_of prepared_sample sample_chroma

@@ -8,7 +8,7 @@ use Rattle.lab_text.proofs.FieldLaws.{place_here, place-on, place_none}
 use Rattle.lab_text.proofs.fields.place_of.Goals as goal
 
 pub loop-k-init : goal.loop-k-init
-loop-k-init c = (omega arith, eqb-true _ 4 (sym c.requires.words.four ∙ c.requires.four_value), zero-add _)
+loop-k-init c = (omega arith, eqb-true _ 4 (sym c.requires.words.four ∙ c.requires.four_words), zero-add _)
 
 pub word-requires-clause-words : goal.word-requires-clause-words
 word-requires-clause-words c = c.requires.words

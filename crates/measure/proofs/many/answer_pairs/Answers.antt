@@ -10,13 +10,13 @@ pub loop-k-init : goal.loop-k-init
 loop-k-init c = (omega arith, refl, refl, answered-none _ _)
 
 pub two_answers-two-requires : goal.two_answers-two-requires
-two_answers-two-requires c = record { sine_table = c.requires.sine_table; weights_in = c.requires.weights_in }
+two_answers-two-requires c = record { tables = c.requires.tables; weights_in = c.requires.weights_in }
 
 pub loop-k-preserved : goal.loop-k-preserved
 loop-k-preserved c =
     let x = c.args in
-    let l : c.loop-k.k + 1 < length x.differences.now = omega (arith, c.requires.n_in_bounds_2.0) in
-    let m : c.loop-k.k + 1 < length x.refusals.now = omega (arith, c.requires.n_in_bounds_2.1) in
+    let l : c.loop-k.k + 1 < length x.differences.now = omega (arith, c.requires.room.0) in
+    let m : c.loop-k.k + 1 < length x.refusals.now = omega (arith, c.requires.room.1) in
     let first =
     answered-more _ _ _ _ _ _ _ c.loop-k.invariant.3 (omega arith) (omega arith)
     c.pair_at-x.ensures.0 c.pair_at-x.ensures.1 c.two_answers-two.ensures.first in
@@ -31,11 +31,11 @@ loop-k-preserved c =
     )
 
 pub pair_answer-last-requires : goal.pair_answer-last-requires
-pair_answer-last-requires c = record { sine_table = c.requires.sine_table; weights_in = c.requires.weights_in }
+pair_answer-last-requires c = record { tables = c.requires.tables; weights_in = c.requires.weights_in }
 
 pub returns-then-k-n : goal.returns-then-k-n
 returns-then-k-n c =
-    let room = c.requires.n_in_bounds_2 in
+    let room = c.requires.room in
     let last =
     answered-more _ _ _ _ _ _ _ c.loop-k.invariant.3 (omega (arith, room.0)) (omega (arith, room.1))
     c.pair_at.ensures.0 c.pair_at.ensures.1 c.pair_answer-last.ensures in

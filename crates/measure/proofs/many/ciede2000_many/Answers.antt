@@ -13,7 +13,7 @@ pairs_is standards samples differences refusals e f g = e ∙ ap₂ min f g
 
 pub answer_pairs-requires : goal.answer_pairs-requires
 answer_pairs-requires c =
-    let held = pairs-held _ _ _ _ (pairs_is _ _ _ _ c.lesser-n.ensures c.lesser-colours.ensures c.lesser-room.ensures) in record { sine_table = (c.sine_table-sines.ensures, c.gaussian_table-gaussians.ensures); weights_in = c.rounded-w.ensures.within; n_in_bounds = (held.standards, held.samples); n_in_bounds_2 = (held.differences, held.refusals) }
+    let held = pairs-held _ _ _ _ (pairs_is _ _ _ _ c.lesser-n.ensures c.lesser-colours.ensures c.lesser-room.ensures) in record { tables = (c.sine_table-sines.ensures, c.gaussian_table-gaussians.ensures); weights_in = c.rounded-w.ensures.within; colours_in_lists = (held.standards, held.samples); room = (held.differences, held.refusals) }
 
 pub returns-clause-answers : goal.returns-clause-answers
 returns-clause-answers c = record {

@@ -25,11 +25,11 @@ prepared-p-requires c = (none c.before).0
 pub prepared-q-requires : goal.prepared-q-requires
 prepared-q-requires c = (none c.before.before.before).1
 
-pub ciede2000-requires-clause-sine_table : goal.ciede2000-requires-clause-sine_table
-ciede2000-requires-clause-sine_table c = c.requires.sine_table
+pub ciede2000-requires-clause-tables : goal.ciede2000-requires-clause-tables
+ciede2000-requires-clause-tables c = c.requires.tables
 
-pub ciede2000-requires-clause-weights_in : goal.ciede2000-requires-clause-weights_in
-ciede2000-requires-clause-weights_in c = (c.requires.weights_in, (c.prepared-p.ensures.ready, c.prepared-q.ensures.ready))
+pub ciede2000-requires-clause-ready : goal.ciede2000-requires-clause-ready
+ciede2000-requires-clause-ready c = (c.requires.weights_in, (c.prepared-p.ensures.ready, c.prepared-q.ensures.ready))
 
 pub accepted-requires : goal.accepted-requires
 accepted-requires c = c.ciede2000.ensures.small

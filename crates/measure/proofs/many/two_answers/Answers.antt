@@ -37,14 +37,14 @@ prepared-p2-requires c = (rounded-none _ _ _ (none c.before.before.before.before
 pub prepared-q2-requires : goal.prepared-q2-requires
 prepared-q2-requires c = (rounded-none _ _ _ (none c.before.before.before.before.before.before.before).1).1
 
-pub ciede2000_two-n-requires-clause-sine_table : goal.ciede2000_two-n-requires-clause-sine_table
-ciede2000_two-n-requires-clause-sine_table c = c.requires.sine_table
+pub ciede2000_two-n-requires-clause-tables : goal.ciede2000_two-n-requires-clause-tables
+ciede2000_two-n-requires-clause-tables c = c.requires.tables
 
-pub ciede2000_two-n-requires-clause-weights_in : goal.ciede2000_two-n-requires-clause-weights_in
-ciede2000_two-n-requires-clause-weights_in c = (c.requires.weights_in, (c.prepared-p1.ensures.ready, c.prepared-q1.ensures.ready))
+pub ciede2000_two-n-requires-clause-first_ready : goal.ciede2000_two-n-requires-clause-first_ready
+ciede2000_two-n-requires-clause-first_ready c = (c.requires.weights_in, (c.prepared-p1.ensures.ready, c.prepared-q1.ensures.ready))
 
-pub ciede2000_two-n-requires-clause-ready : goal.ciede2000_two-n-requires-clause-ready
-ciede2000_two-n-requires-clause-ready c = (c.prepared-p2.ensures.ready, c.prepared-q2.ensures.ready)
+pub ciede2000_two-n-requires-clause-second_ready : goal.ciede2000_two-n-requires-clause-second_ready
+ciede2000_two-n-requires-clause-second_ready c = (c.prepared-p2.ensures.ready, c.prepared-q2.ensures.ready)
 
 pub accepted-first-requires : goal.accepted-first-requires
 accepted-first-requires c = c.ciede2000_two-n.ensures.first.small
