@@ -1,13 +1,13 @@
 -- `pairs::answer` meets its contract.
 use mathlib.Core.List.{List}
-use mathlib.Core.Path.{◌≡◌, refl, sym, ap, ◌∙◌}
-use Prim.Native.Nat.{ℕ, ◌+◌, ◌-◌, ◌≤◌}
+use mathlib.Core.Path.{◌≡◌, sym, ap, ◌∙◌}
+use Prim.Native.Nat.{ℕ, ◌+◌, ◌-◌}
 use native.Mathlib.Omega.{arith}
 use lib.ListN.{length-drop, length, take, drop}
 use lib.Seq.{take-add, take_all, length-take-le}
 use Rattle.text.proofs.Streaming.{after-append, starts-held}
 use Rattle.text.specs.Text.{Held}
-use Rattle.text.specs.Stream.{held_after, state_held}
+use Rattle.text.specs.Stream.{held_after}
 use Rattle.pairs.proofs.answer.Goals as goal
 
 -- a piece read in two goes
