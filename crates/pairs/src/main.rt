@@ -2,8 +2,10 @@
 // header and for each line its figures or its refusal. Every byte that it writes is text's.
 #![tactic(auto)]
 
-ghost use Rattle.std.specs.Prelude.{◌≡◌, IfOk};
-ghost use Rattle.text.specs.Stream.{held_after, state_held};
+ghost use Rattle.std.specs.Prelude.{◌≡◌, ◌++◌, List, ℕ, IfOk, OnOk, IfSome};
+ghost use Rattle.std.specs.Io.KnownBytes.{Appends};
+ghost use Rattle.text.specs.Stream.{held_after, held_text, last_text, state_held, state_of, text_so_far};
+ghost use Rattle.text.specs.Text.{text_of};
 
 use std::io;
 use std::io::{Error, ErrorKind, Read, Write};
@@ -12,7 +14,9 @@ use text::State;
 // Answers a piece of the input: the state after it, once its answers are written. The buffer is
 // written each time that it is full.
 fn answer<W: Write>(output: &mut W, start: State, chunk: &[u8], out: &mut [u8]) -> io::Result<State>
-    ensures { IfOk result (λ state. state_held state ≡ held_after (state_held start) chunk.now) }
+    ensures state { IfOk result (λ state. state_held state ≡ held_after (state_held start) chunk.now) }
+    ensures answers { OnOk result
+        (Appends (W.contents output.old) (W.contents output.new) (held_text (state_held start) chunk.now)) }
 {
     let mut state = start;
     let mut from = 0;
@@ -29,21 +33,32 @@ fn answer<W: Write>(output: &mut W, start: State, chunk: &[u8], out: &mut [u8]) 
     Ok(state)
 }
 
-// The answer of a last line that no newline ends.
-fn answer_last<W: Write>(output: &mut W, state: State) -> io::Result<()> {
+// The answer of a last line that no newline ends. With it, what was written is the text program's
+// output for the whole input.
+fn answer_last<W: Write>(output: &mut W, state: State) -> io::Result<()>
+    ensures last { OnOk result
+        (Appends (W.contents output.old) (W.contents output.new) (last_text (state_held state))) }
+    ensures whole { (input : List ℕ) → state_held state ≡ state_of input
+        → text_of input ≡ text_so_far input ++ last_text (state_held state) }
+{
     let last = text::finish(state);
     let bytes = last.text;
     let n = last.len;
     output.write_all(&bytes[..n])
 }
 
-// Reads to the end of the input. A read or a write that fails ends it. A proved loop has to end,
-// and nothing says that the input does: so the turns are counted, up to a number that no run
+// Writes the header, and reads and answers to the end of the input: what it writes is the text
+// program's output for the whole input. A read or a write that fails ends it. A proved loop has to
+// end, and nothing says that the input does: so the turns are counted, up to a number that no run
 // uses up.
-fn answer_all<R: Read, W: Write>(input: &mut R, output: &mut W) -> io::Result<()> {
+fn answer_all<R: Read, W: Write>(input: &mut R, output: &mut W) -> io::Result<()>
+    ensures { OnOk result (IfSome (R.remaining input.old)
+        (λ bytes. Appends (W.contents output.old) (W.contents output.new) (text_of bytes))) }
+{
     let mut chunk = [0u8; 65536];
     let mut out = [0u8; 65536];
     let mut state = text::start();
+    output.write_all(&text::header())?;
     for _ in 0..u64::MAX {
         let got = input.read(&mut chunk)?;
         if got == 0 {
@@ -55,7 +70,5 @@ fn answer_all<R: Read, W: Write>(input: &mut R, output: &mut W) -> io::Result<()
 }
 
 fn main(rt: HostRuntime) -> io::Result<()> {
-    let mut output = rt.stdout();
-    output.write_all(&text::header())?;
-    answer_all(&mut rt.stdin(), &mut output)
+    answer_all(&mut rt.stdin(), &mut rt.stdout())
 }
