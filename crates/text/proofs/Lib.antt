@@ -1,8 +1,8 @@
--- `Streaming` is for callers; the others are for the proofs of this crate's functions.
+-- `Streaming` and `Whole` are for callers; the others are for the proofs of this crate's functions.
 mod LineLaws
 mod FigureLaws
 mod Answering
 mod Holding
 pub mod Streaming
-mod Whole
+pub mod Whole
 mod Examples

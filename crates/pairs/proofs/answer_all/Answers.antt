@@ -1,6 +1,11 @@
 -- `pairs::answer_all` meets its contract.
 use Rattle.std.proofs.Common.{◌++◌}
-use mathlib.Core.Path.{sym}
+use Rattle.std.proofs.lemmas.Grind.{common_steps}
+use Rattle.std.proofs.Common.{arith}
+use mathlib.Core.Path.{sym, ap, ◌∙◌}
+use Rattle.text.specs.Text.{Held}
+use Rattle.text.specs.Stream.{last_text, text_so_far}
+use Rattle.text.proofs.Whole.{text-whole}
 use Rattle.pairs.proofs.Whole.{appends-more, consumes-more, state-more, text-more}
 use Rattle.pairs.proofs.answer_all.Goals as goal
 
@@ -13,3 +18,8 @@ loop-preserved g c =
       rw (text-more l.0 _, sym l.3) (appends-more _ _ _ _ _ l.2 s.answers),
       state-more l.0 _ l.3 s.state,
     )
+
+pub returns-then-got-eq0 : goal.returns-then-got-eq0
+returns-then-got-eq0 g c =
+    let whole = text-whole c.loop.invariant.0 ∙ ap (λ (h : Held). text_so_far c.loop.invariant.0 ++ last_text h) (sym c.loop.invariant.3) in
+    grind (arith, common_steps, whole)
