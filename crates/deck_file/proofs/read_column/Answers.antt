@@ -1,8 +1,7 @@
 -- `deck_file::read_column` meets its contract: the first k numbers are read, and the rest is as it was. Assumes nothing.
 use mathlib.Core.Path.{◌≡◌, refl}
-use Prim.Native.Nat.{◌+◌, ◌*◌, ◌≤◌}
 use native.Mathlib.Omega.{arith}
-use lib.ListN.{length, length-set}
+use lib.ListN.{length-set}
 use Rattle.places.specs.Places.{column_of}
 use Rattle.places.proofs.Order.{read_back}
 use Rattle.places.proofs.Columns.{column-more}
@@ -14,21 +13,14 @@ loop-k-init c = (omega arith, refl, refl)
 
 pub overflow_mul-k : goal.overflow_mul-k
 overflow_mul-k c =
-    let there : c.args.first + 12 * c.loop-k.k + 4 ≤ length c.args.file.now =
-    c.requires.in_file _ c.loop-k-test.true in
-    omega (arith, there)
+    omega (arith, c.requires.in_file c.loop-k.k c.loop-k-test.true)
 
 pub overflow_add-first : goal.overflow_add-first
 overflow_add-first c =
-    let there : c.args.first + 12 * c.loop-k.k + 4 ≤ length c.args.file.now =
-    c.requires.in_file _ c.loop-k-test.true in
-    omega (arith, there)
+    omega (arith, c.requires.in_file c.loop-k.k c.loop-k-test.true)
 
 pub i32_at-requires : goal.i32_at-requires
-i32_at-requires c =
-    let there : c.args.first + 12 * c.loop-k.k + 4 ≤ length c.args.file.now =
-    c.requires.in_file _ c.loop-k-test.true in
-    there
+i32_at-requires c = c.requires.in_file _ c.loop-k-test.true
 
 pub loop-k-preserved : goal.loop-k-preserved
 loop-k-preserved c =
