@@ -1,21 +1,25 @@
 -- Numbers in bytes and back, and the bytes at a place. Assumes nothing.
 use mathlib.Core.Path.{◌≡◌, refl, sym, ap, ap₂, ◌∙◌}
-use mathlib.Core.Bool.{true, false, ◌&&◌, true≢false, and-false, and-eq-true_iff}
+use mathlib.Core.Bool.{true, ◌&&◌, true≢false, and-eq-true_iff}
 use mathlib.Core.List.{List, [], ◌∷◌, ◌++◌}
 use Prim.Native.Nat.{ℕ, zero, suc, ◌+◌, ◌*◌, ◌/◌, ◌%◌, ◌^◌, ◌≤◌, ◌<◌}
-use native.Mathlib.Nat.{pow-suc, le_of_suc-le-suc, not-suc-le-zero}
+use native.Mathlib.Nat.{pow-suc}
 use native.Mathlib.Numerals.{add-one}
 use native.Mathlib.Omega.{arith}
 use borrow.Author.Rules.{sfits_of}
-use borrow.Author.Tests.{eqb-true, eq-eqb, ne_eqb}
+use borrow.Author.Tests.{eqb-true}
 use lib.Dec.{eqb, lit<}
 use lib.IntN.{ℤ}
 use lib.Signed.{mag}
-use lib.ListN.{length, get_or, take, drop, length-take, length-drop, drop_of_length-le}
-use lib.Seq.{drop-cons, drop-drop, take-add, get_or-take, get_or-drop, length-take-le}
-use mir.Syntax.{w32}
+use lib.ListN.{length, get_or, take, drop, length-drop}
+use lib.Seq.{drop-cons, drop-drop, take-add, get_or-drop, length-take-le}
+use lib.Pointwise.{pointwise}
+use mir.Syntax.{w16, w32}
 use mir.Val.{hbits, of_z, to_z}
 use mir.Facts.{to_z-of_z, of_z-to_z, Fits-of_z}
+use Rattle.std.specs.Bool.{one_answer}
+use Rattle.std.specs.Int.{to_le_bytes}
+use Rattle.std.proofs.lemmas.Bool.Decides.{Decides-eqb}
 use Rattle.buffer.specs.Numbers.{bytes_of, unsigned_of, signed_bytes, signed_of, field, same}
 
 -- ---- the bytes at a place
@@ -31,26 +35,15 @@ field-join bs at m n =
 pub field-length : (bs : List ℕ) (at n : ℕ) → at + n ≤ length bs → length (field at n bs) ≡ n
 field-length bs at n h = length-take-le n (drop at bs) (simp length-drop (omega arith))
 
-pub unsigned-two : (bs : List ℕ) (at : ℕ) → at + 2 ≤ length bs
-    → unsigned_of (field at 2 bs) ≡ get_or bs at 0 + 256 * get_or bs (at + 1) 0
+-- the first byte of a field and the rest
+pub unsigned-cons : (bs : List ℕ) (at next n : ℕ) → next ≡ at + 1 → at < length bs
+    → unsigned_of (field at (suc n) bs) ≡ get_or bs at 0 + 256 * unsigned_of (field next n bs)
 unfolding unsigned_of
-unsigned-two bs at h =
-    let first = field-cons bs at 1 (omega arith) in
-    let second = field-cons bs (at + 1) 0 (omega arith) in
-    ap unsigned_of first ∙ ap (λ (t : List ℕ). get_or bs at 0 + 256 * unsigned_of t) second ∙ omega arith
+unsigned-cons bs at next n e h = ap unsigned_of (field-cons bs at n h) ∙ ap (λ k. get_or bs at 0 + 256 * unsigned_of (field k n bs)) (sym e)
 
-pub unsigned-four : (bs : List ℕ) (at : ℕ) → at + 4 ≤ length bs
-    → unsigned_of (field at 4 bs) ≡ unsigned_of (field at 2 bs) + 65536 * unsigned_of (field (at + 2) 2 bs)
+pub unsigned-none : (bs : List ℕ) (at : ℕ) → unsigned_of (field at 0 bs) ≡ 0
 unfolding unsigned_of
-unsigned-four bs at h =
-    let e : at + 1 + 1 ≡ at + 2 = omega arith in
-    let rest : field (at + 1 + 1) 2 bs ≡ field (at + 2) 2 bs = ap (λ k. field k 2 bs) e in
-    let first = field-cons bs at 3 (omega arith) in
-    let second = field-cons bs (at + 1) 2 (omega arith) in
-    let whole : unsigned_of (field at 4 bs)
-    ≡ get_or bs at 0 + 256 * (get_or bs (at + 1) 0 + 256 * unsigned_of (field (at + 2) 2 bs)) =
-    ap unsigned_of (first ∙ ap (λ t. get_or bs at 0 ∷ t) (second ∙ ap (λ t. get_or bs (at + 1) 0 ∷ t) rest)) in
-    omega (arith, whole, unsigned-two bs at (omega arith))
+unsigned-none bs at = refl
 
 -- ---- from a number to its bytes and back
 
@@ -58,6 +51,18 @@ pub bytes-length : (n x : ℕ) → length (bytes_of n x) ≡ n
 unfolding bytes_of
 bytes-length zero x = refl
 bytes-length (suc n) x = ap suc (bytes-length n (x / 256))
+
+-- the library's bytes of a number
+pub le-bytes-two : (x : ℕ) → to_le_bytes w16 x ≡ bytes_of 2 x
+unfolding bytes_of
+le-bytes-two x = refl
+
+pub le-bytes-four : (x : ℕ) → to_le_bytes w32 x ≡ bytes_of 4 x
+unfolding bytes_of
+le-bytes-four x =
+    let third : x / 65536 % 256 ≡ x / 256 / 256 % 256 = omega arith in
+    let fourth : x / 16777216 % 256 ≡ x / 256 / 256 / 256 % 256 = omega arith in
+    ap₂ (λ y z. x % 256 ∷ x / 256 % 256 ∷ y ∷ z ∷ []) third fourth
 
 pub unsigned_bytes : (n x : ℕ) → x < 256 ^ n → unsigned_of (bytes_of n x) ≡ x
 unfolding bytes_of unsigned_of
@@ -125,54 +130,23 @@ bytes_back bs at h k =
 
 -- ---- two texts
 
-pub same_refl : (xs : List ℕ) → same xs xs ≡ true
+eqb_flips : (x y : ℕ) → eqb x y ≡ eqb y x
+eqb_flips x y = one_answer _ _ (Decides-eqb x y) (λ e. sym ((Decides-eqb y x).0 e), λ e. (Decides-eqb y x).1 (sym e))
+
+-- the library's equality of texts
+pub pointwise-same : (xs ys : List ℕ) → pointwise eqb xs ys ≡ same xs ys
 unfolding same
-same_refl [] = refl
-same_refl (x ∷ xs) = ap₂ ◌&&◌ (eq-eqb x x refl) (same_refl xs)
+pointwise-same [] [] = refl
+pointwise-same [] (y ∷ ys) = refl
+pointwise-same (x ∷ xs) [] = refl
+pointwise-same (x ∷ xs) (y ∷ ys) = ap (λ t. eqb x y && t) (pointwise-same xs ys)
 
--- of which one is shorter
-pub same-short : (xs ys : List ℕ) → length xs < length ys → same xs ys ≡ false
+pub same-flip : (xs ys : List ℕ) → same xs ys ≡ same ys xs
 unfolding same
-same-short xs [] h = absurd (not-suc-le-zero h)
-same-short [] (y ∷ ys) h = refl
-same-short (x ∷ xs) (y ∷ ys) h = ap (λ t. eqb x y && t) (same-short xs ys (le_of_suc-le-suc h)) ∙ and-false (eqb x y)
-
-same-cons : (xs ys : List ℕ) (i : ℕ) → i < length xs → i < length ys
-    → same (drop i xs) (drop i ys) ≡ (eqb (get_or xs i 0) (get_or ys i 0) && same (drop (i + 1) xs) (drop (i + 1) ys))
-unfolding same
-same-cons xs ys i h k = rw (add-one i) (ap₂ same (drop-cons xs i 0 h) (drop-cons ys i 0 k))
-
--- a text and what the bytes start with, from a place on
-module _ (bytes text : List ℕ) (long : length text ≤ length bytes) (i : ℕ) (h : i < length text) where
-  abbrev front : List ℕ
-  front = take (length text) bytes
-
-  front-cons : same (drop i front) (drop i text)
-      ≡ (eqb (get_or bytes i 0) (get_or text i 0) && same (drop (i + 1) front) (drop (i + 1) text))
-  front-cons =
-      same-cons front text i (omega (arith, length-take-le (length text) bytes long)) h
-      ∙ ap (λ x. eqb x (get_or text i 0) && same (drop (i + 1) front) (drop (i + 1) text))
-      (get_or-take (length text) bytes i 0 h)
-
-  pub front-more : get_or bytes i 0 ≡ get_or text i 0
-      → same (drop i front) (drop i text) ≡ same (drop (i + 1) front) (drop (i + 1) text)
-  front-more e = front-cons ∙ ap (λ t. t && same (drop (i + 1) front) (drop (i + 1) text)) (eq-eqb _ _ e)
-
-  pub front-differs : (get_or bytes i 0 ≡ get_or text i 0 → ⊥) → same (drop i front) (drop i text) ≡ false
-  front-differs e = front-cons ∙ ap (λ t. t && same (drop (i + 1) front) (drop (i + 1) text)) (ne_eqb _ _ e)
-
-pub same_end : (bytes text : List ℕ) (i : ℕ) → length text ≤ i
-    → same (drop i (take (length text) bytes)) (drop i text) ≡ true
-same_end bytes text i h =
-    let shorter : length (take (length text) bytes) ≤ i = simp length-take (omega arith) in
-    ap₂ same (drop_of_length-le (take (length text) bytes) shorter) (drop_of_length-le text h) ∙ same_refl []
-
-pub same_length : (xs ys : List ℕ) → (length xs ≡ length ys → ⊥) → same xs ys ≡ false
-unfolding same
-same_length [] [] h = absurd (h refl)
-same_length [] (y ∷ ys) h = refl
-same_length (x ∷ xs) [] h = refl
-same_length (x ∷ xs) (y ∷ ys) h = ap (λ t. eqb x y && t) (same_length xs ys (λ e. h (ap suc e))) ∙ and-false (eqb x y)
+same-flip [] [] = refl
+same-flip [] (y ∷ ys) = refl
+same-flip (x ∷ xs) [] = refl
+same-flip (x ∷ xs) (y ∷ ys) = ap₂ ◌&&◌ (eqb_flips x y) (same-flip xs ys)
 
 pub same-is : (xs ys : List ℕ) → same xs ys ≡ true → xs ≡ ys
 unfolding same

@@ -1,10 +1,9 @@
 -- The parts of some bytes: where the first ends, and what is left after it. Assumes nothing.
 use mathlib.Core.Path.{◌≡◌, refl, sym, ap, ap₂, ◌∙◌}
 use mathlib.Core.Bool.{Bool, true, false, ◌&&◌, cond}
-use mathlib.Core.Logic.{⊎_elim}
 use mathlib.Core.List.{List, [], ◌∷◌, ◌++◌}
 use Prim.Native.Nat.{ℕ, suc, ◌+◌, ◌-◌, ◌≤◌, ◌<◌, suc-le-suc}
-use native.Mathlib.Nat.{add-zero, zero-lt-suc, eq-or-lt_of_le, le_of_suc-le-suc}
+use native.Mathlib.Nat.{add-zero, zero-lt-suc}
 use native.Mathlib.Numerals.{add-one}
 use native.Mathlib.Omega.{arith}
 use lib.Dec.{leb, ltb, eqb}
@@ -68,11 +67,6 @@ module _ (b : ℕ) (s : List ℕ) where
   -- no byte from `at` up to r is b
   abbrev pub FreeUpTo : ℕ → ℕ → Type 0
   FreeUpTo at r = (k : ℕ) → at ≤ k → k < r → get_or s k 0 ≡ b → ⊥
-
-  pub free_more : (at i : ℕ) → FreeUpTo at i → (get_or s i 0 ≡ b → ⊥) → FreeUpTo at (i + 1)
-  free_more at i f g k l h =
-      ⊎_elim (λ e d. g (ap (λ j. get_or s j 0) (sym e) ∙ d)) (λ less. f k l less)
-      (eq-or-lt_of_le (le_of_suc-le-suc (rw (add-one i) at h)))
 
   module _ (at r : ℕ) (low : at ≤ r) (high : r ≤ length s) (f : FreeUpTo at r) where
     abbrev first : List ℕ

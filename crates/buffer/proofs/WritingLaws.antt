@@ -1,12 +1,11 @@
 -- Texts written one after the other into a buffer.
 use mathlib.Core.Path.{◌≡◌, refl, sym, ap, ◌∙◌}
 use mathlib.Core.List.{List, [], ◌∷◌, ◌++◌}
-use Prim.Native.Nat.{ℕ, suc, ◌+◌, ◌≤◌, ◌<◌}
+use Prim.Native.Nat.{ℕ, suc, ◌+◌, ◌≤◌}
 use native.Mathlib.Nat.{add-zero}
-use native.Mathlib.Numerals.{add-one}
 use native.Mathlib.Omega.{arith}
-use lib.ListN.{length, get_or, drop, set, length-append, drop_of_length-le}
-use lib.Seq.{sets, sets-eq, length-sets, drop-cons}
+use lib.ListN.{length, take, drop, set, length-append}
+use lib.Seq.{sets, sets-eq, length-sets, take-append_seam}
 use Rattle.buffer.specs.Writing.{Written}
 
 pub sets-append : (xs ys out : List ℕ) (at : ℕ) → sets (sets out at xs) (at + length xs) ys ≡ sets out at (xs ++ ys)
@@ -45,13 +44,9 @@ written-front {out} {x = x} w h =
     let e : 0 + length x ≡ length x = omega arith in
     w.is ∙ sets-eq x out 0 (omega arith) ∙ ap (λ (k : ℕ). x ++ drop k out) e
 
--- one byte more of a text
-pub bytes-turn : (out text : List ℕ) (end i : ℕ) → i < length text
-    → sets (set out end (get_or text i 0)) (end + 1) (drop (i + 1) text) ≡ sets out end (drop i text)
-bytes-turn out text end i h = rw (add-one end, add-one i) (sym (ap (sets out end) (drop-cons text i 0 h)))
-
-pub bytes-written : {out last text : List ℕ} (at : ℕ) {end : ℕ} (i : ℕ) → end ≡ at + i → i ≡ length text
-    → sets last end (drop i text) ≡ sets out at text → Written out at text (length text) last end
-bytes-written {out} {last} {text} at {end} i h k e =
-    let l : length text ≤ i = omega arith in
-    record { is = sym (ap (sets last end) (drop_of_length-le text l)) ∙ e; next = omega arith; size = omega arith }
+-- what stands at the start of a buffer after a text was written there
+pub written-take : {out last text : List ℕ} {n r : ℕ} → n ≤ length out → Written out 0 text n last r → take r last ≡ text
+written-take {out} {last} {text} {n} {r} h w =
+    let e : r ≡ length text = omega (arith, w.next) in
+    (λ i. take (e i) (w.is i)) ∙ ap (take (length text)) (sets-eq text out 0 (omega (arith, w.size)))
+    ∙ take-append_seam text (drop (0 + length text) out)

@@ -25,34 +25,17 @@ pub fn put_bytes(out: &mut [u8], at: usize, text: &[u8]) -> usize
     ensures { let t = text.now in
         Written out.old at t (length t) out.new result }
 {
-    let mut i = 0;
-    let mut end = at;
-    while i < text.len() {
-        out[end] = text[i];
-        end += 1;
-        i += 1;
-    }
+    let end = at + text.len();
+    out[at..end].copy_from_slice(text);
     end
 }
 
 // A number of 16 bits.
-pub fn put_u16(out: &mut [u8], at: usize, x: u16) -> usize
+pub fn put_u16(out: &mut [u8], at: usize, n: u16) -> usize
     requires { at + 2 ≤ length out.old }
-    ensures { Written out.old at (bytes_of 2 x) 2 out.new result }
+    ensures { Written out.old at (bytes_of 2 n) 2 out.new result }
 {
-    let next = put_byte(out, at, (x % 256) as u8);
-    put_byte(out, next, (x / 256 % 256) as u8)
-}
-
-// A number of 32 bits.
-fn put_u32(out: &mut [u8], at: usize, x: u32) -> usize
-    requires { at + 4 ≤ length out.old }
-    ensures { Written out.old at (bytes_of 4 x) 4 out.new result }
-{
-    let second = put_byte(out, at, (x % 256) as u8);
-    let third = put_byte(out, second, (x / 256 % 256) as u8);
-    let fourth = put_byte(out, third, (x / 256 / 256 % 256) as u8);
-    put_byte(out, fourth, (x / 256 / 256 / 256 % 256) as u8)
+    put_bytes(out, at, &n.to_le_bytes())
 }
 
 // A signed number of 32 bits.
@@ -60,32 +43,17 @@ pub fn put_i32(out: &mut [u8], at: usize, x: i32) -> usize
     requires { at + 4 ≤ length out.old }
     ensures { Written out.old at (signed_bytes x) 4 out.new result }
 {
-    put_u32(out, at, signed::to_bits(x))
+    put_bytes(out, at, &x.to_le_bytes())
 }
 
 // ---- reading at a place
-
-// A byte in a wider number.
-fn wide(b: u8) -> u16
-    ensures { (result ≡ b) × (result < 256) }
-{
-    b as u16
-}
 
 // A number of 16 bits.
 pub fn u16_at(bytes: &[u8], at: usize) -> u16
     requires { at + 2 ≤ length bytes.now }
     ensures { result ≡ unsigned_of (field at 2 bytes.now) }
 {
-    wide(bytes[at]) + 256 * wide(bytes[at + 1])
-}
-
-// A number of 32 bits.
-fn u32_at(bytes: &[u8], at: usize) -> u32
-    requires { at + 4 ≤ length bytes.now }
-    ensures { result ≡ unsigned_of (field at 4 bytes.now) }
-{
-    (u16_at(bytes, at) as u32) + 65536 * (u16_at(bytes, at + 2) as u32)
+    u16::from_le_bytes([bytes[at], bytes[at + 1]])
 }
 
 // A signed number of 32 bits.
@@ -93,7 +61,7 @@ pub fn i32_at(bytes: &[u8], at: usize) -> i32
     requires { at + 4 ≤ length bytes.now }
     ensures { result ≡ signed_of (field at 4 bytes.now) }
 {
-    signed::from_bits(u32_at(bytes, at))
+    i32::from_le_bytes([bytes[at], bytes[at + 1], bytes[at + 2], bytes[at + 3]])
 }
 
 // Whether the bytes start with a text.
@@ -101,25 +69,12 @@ pub fn starts_with(bytes: &[u8], text: &[u8]) -> bool
     ensures { let t = text.now in
         result ≡ same (take (length t) bytes.now) t }
 {
-    if bytes.len() < text.len() {
-        return false;
-    }
-    let mut i = 0;
-    while i < text.len() {
-        if bytes[i] != text[i] {
-            return false;
-        }
-        i += 1;
-    }
-    true
+    bytes.starts_with(text)
 }
 
 // Whether two texts are the same.
 pub fn equal(s: &[u8], t: &[u8]) -> bool
     ensures { result ≡ same s.now t.now }
 {
-    if s.len() == t.len() {
-        return starts_with(s, t);
-    }
-    false
+    s == t
 }

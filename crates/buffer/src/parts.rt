@@ -8,14 +8,12 @@ pub fn part_end(bytes: &[u8], at: usize, b: u8) -> usize
     requires { at ≤ length bytes.now }
     ensures { PartEnds b bytes.now at result }
 {
-    let mut i = at;
-    while i < bytes.len() {
+    for i in at..bytes.len() {
         if bytes[i] == b {
             return i;
         }
-        i += 1;
     }
-    i
+    bytes.len()
 }
 
 // The part that starts at a place, or no bytes where the place is past the end.

@@ -15,6 +15,14 @@ const ONE: u64 = 1000000000;
 // Its square.
 const ONE_SQUARED: u64 = 1000000000000000000;
 
+// A point of the plane of a and b with its chroma, all three in one unit.
+#[derive(Clone, Copy)]
+pub struct Coordinates {
+    pub a: Int,
+    pub b: Int,
+    pub chroma: u64,
+}
+
 // The bounds are those of a' and b', so that it serves both chromas.
 fn sum_of_squares(a: Int, b: Int) -> u64
     requires a_bound { a.n ≤ 1920000000 }

@@ -95,6 +95,15 @@ count-below (suc k) n h = by_size (dec_lt n 10) (count-below k (n / 10))
         let g : n < 10 ^ suc k * 10 = rw pow-suc at h in
         omega (arith, count-more n (omega arith), f (omega arith))
 
+-- and one that is not below 10 ^ k more than k
+pub count-is : (k n : ℕ) → 10 ^ k ≤ n → n < 10 * 10 ^ k → digit_count n ≡ k + 1
+count-is zero n low high = count-one n (omega arith)
+count-is (suc k) n low high =
+    let l : 10 ^ k * 10 ≤ n = rw pow-suc at low in
+    let h : n < 10 * (10 ^ k * 10) = rw pow-suc at high in
+    let p = one-le-pow k 10 (lit< tt) in
+    omega (arith, count-more n (omega arith), count-is k (n / 10) (omega arith) (omega arith))
+
 -- the whole part of a 64-bit number, and so many decimals
 pub whole-count : {n p places : ℕ} → n < 2 ^ 64 → places ≤ 6 → p ≡ 10 ^ places → digit_count (n / p) + places ≤ 20
 whole-count {n} {p} {places} h k e =

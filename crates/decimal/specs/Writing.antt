@@ -21,3 +21,7 @@ minus_of z = cond (lt_z z (pos 0)) (45 ∷ []) []
 
 unfoldable pub fixed_text : ℕ → ℤ → List ℕ
 fixed_text places z = minus_of z ++ (digits_of (nat_abs z / 10 ^ places) ++ (46 ∷ last_digits places (nat_abs z)))
+
+-- `refused N` and a newline
+unfoldable pub refused_text : ℕ → List ℕ
+refused_text n = (114 ∷ 101 ∷ 102 ∷ 117 ∷ 115 ∷ 101 ∷ 100 ∷ 32 ∷ []) ++ (digits_of n ++ (10 ∷ []))

@@ -1,7 +1,7 @@
 -- What no refusal says of a deck and of a search, and what each answer is. Assumes nothing.
 use mathlib.Core.Path.{◌≡◌, refl, sym, ap, ap₂, ◌∙◌}
 use mathlib.Core.Bool.{Bool, true, false, not, ◌&&◌, ◌||◌, cond, true≢false}
-use mathlib.Core.List.{List, ◌++◌}
+use mathlib.Core.List.{List, [], ◌∷◌, ◌++◌}
 use Prim.Native.Nat.{ℕ, zero, suc, ◌≤◌, ◌<◌}
 use native.Mathlib.Omega.{arith}
 use borrow.Author.Tests.{eqb-true, eq-eqb, leb-true, le-leb, lt-leb}
@@ -11,13 +11,15 @@ use lib.ListN.{length, drop}
 use Rattle.places.specs.Places.{rising}
 use Rattle.places.proofs.PlacesLaws.{every-at}
 use Rattle.sample.specs.Sample.{colour_refusal}
-use Rattle.sample.specs.Refusals.{first_of}
-use Rattle.sample.proofs.RefusalLaws.{none_of, first-last}
+use Rattle.refusal.specs.Refusals.{number_of as refusal_number, first_of, first_refusal}
+use Rattle.refusal.specs.declared.Refusal.{Refusal}
+use Rattle.refusal.proofs.RefusalLaws.{none_of, first-last, first-refused, first_then}
 use Rattle.fixed_point.specs.Refusals.{reading_refusal, weights_refusal, tolerance_refusal}
-use Rattle.deck.specs.Deck.{Deck, Query, most_swatches, sizes_in, swatches_in, lightness_rises, deck_refusal, search_refusal}
-use Rattle.deck.specs.Answers.{found_of, contents_of, room_refusal, number_of, count_of, needed_of, Refuses}
-use Rattle.deck.specs.declared.Found.{Found}
-use Rattle.deck.specs.declared.Found.TheVariants.{Count, Refused, Short}
+use Rattle.deck.specs.Deck.{Deck, Query, sizes_in, swatches_in, lightness_rises, deck_refusal, search_refusal}
+use Rattle.deck.specs.Inner.{Sizes}
+use Rattle.deck.specs.InnerQuery.{query_refusal}
+use Rattle.deck.specs.declared.columns.Columns.{Columns}
+use Rattle.deck.specs.Answers.{Found, Count, Refused, Short, found_of, contents_of, room_refusal, number_of, count_of, needed_of, Refuses}
 
 -- ---- truth values
 
@@ -26,11 +28,6 @@ both true b e = (refl, e)
 both false b e = absurd (true≢false (sym e))
 
 -- ---- columns whose sizes are in order
-
-pub record Sizes (l a b : List ℤ) : Type 0 where
-  pub a_is : length a ≡ length l
-  pub b_is : length b ≡ length l
-  pub most : length l ≤ most_swatches
 
 pub sizes-are : (l a b : List ℤ) → sizes_in l a b ≡ true → Sizes l a b
 unfolding sizes_in
@@ -72,6 +69,10 @@ deck-valid d e =
     let test : ℕ → Bool = λ k. eqb (colour_refusal (d.colour k)) 0 in
     record { sized = h.0; colours = λ k l. eqb-true _ 0 (every-at test d.count k h.1 l); rises = h.2 }
 
+-- the columns of a deck that is not refused are of one length, of at most 4,096
+pub columns-sizes : (d : Columns) → Sizes d.slices.l.now d.slices.a.now d.slices.b.now
+columns-sizes d = sizes-are _ _ _ (deck-valid _ d.valid).sized
+
 -- ---- a search that is not refused
 
 pub record Accepts (q : Query) (d : Deck) : Type 0 where
@@ -87,6 +88,37 @@ search-accepts q d e =
     let w = none_of _ _ r.1 in
     let t = none_of _ _ w.1 in
     record { reading_in = r.0; weights_in = w.0; tolerance-in = t.0; deck_in = sym (first-last _) ∙ t.1 }
+
+-- ---- the refusal of a query, by its tests in their order
+
+module _ (q : Query) (e : Refusal) where
+  pub by-reading : refusal_number e ≡ reading_refusal q.reading → refusal_number e ≡ query_refusal q
+  unfolding query_refusal first_refusal
+  by-reading h = sym (first-refused e _ h)
+
+  pub by-weights : 0 ≡ reading_refusal q.reading → refusal_number e ≡ weights_refusal q.weights → refusal_number e ≡ query_refusal q
+  unfolding query_refusal first_refusal
+  by-weights r h =
+      sym (ap (λ (n : ℕ). first_of n (first_refusal (weights_refusal q.weights ∷ tolerance_refusal q.tolerance ∷ []))) (sym r) ∙ first-refused e _ h)
+
+  pub by-tolerance : 0 ≡ reading_refusal q.reading → 0 ≡ weights_refusal q.weights
+      → refusal_number e ≡ tolerance_refusal q.tolerance → refusal_number e ≡ query_refusal q
+  unfolding query_refusal first_refusal
+  by-tolerance r w h =
+      sym (ap (λ (n : ℕ). first_of n (first_refusal (weights_refusal q.weights ∷ tolerance_refusal q.tolerance ∷ []))) (sym r)
+      ∙ ap (λ (n : ℕ). first_of n (first_refusal (tolerance_refusal q.tolerance ∷ []))) (sym w) ∙ first-refused e _ h)
+
+pub query-accepted : (q : Query) → 0 ≡ reading_refusal q.reading → 0 ≡ weights_refusal q.weights
+    → 0 ≡ tolerance_refusal q.tolerance → 0 ≡ query_refusal q
+unfolding query_refusal first_refusal
+query-accepted q r w t =
+    sym (ap (λ (n : ℕ). first_of n (first_refusal (weights_refusal q.weights ∷ tolerance_refusal q.tolerance ∷ []))) (sym r)
+    ∙ ap (λ (n : ℕ). first_of n (first_refusal (tolerance_refusal q.tolerance ∷ []))) (sym w) ∙ ap (λ (n : ℕ). first_of n 0) (sym t))
+
+-- the deck's refusal comes after the query's
+pub query-then-deck : (q : Query) (d : Deck) → first_of (query_refusal q) (deck_refusal d) ≡ search_refusal q d
+unfolding query_refusal search_refusal
+query-then-deck q d = first_then _ (deck_refusal d)
 
 -- ---- the answer, and what the list holds
 

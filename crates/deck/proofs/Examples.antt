@@ -8,7 +8,7 @@ use lib.Ieee.{Float, fin, le}
 use lib.IntN.{pos, neg_ℤ}
 use Rattle.places.specs.Places.{every, rising}
 use Rattle.sample.specs.Sample.{colour_refusal}
-use Rattle.sample.specs.Refusals.{first_refusal}
+use Rattle.refusal.specs.Refusals.{first_refusal}
 use Rattle.fixed_point.specs.Refusals.{reading_refusal, weights_refusal, tolerance_refusal}
 use Rattle.fixed_point.specs.declared.Reading.{Reading}
 use Rattle.fixed_point.specs.declared.Weights.{Weights}

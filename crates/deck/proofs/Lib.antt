@@ -1,7 +1,6 @@
 -- `DeckLaws`, `Orderly` and `Searching` are for callers; the others are for the proofs of this crate's functions.
 pub mod DeckLaws
 pub mod Orderly
-pub mod Lanes
 pub mod LightnessWindow
 pub mod FarSwatch
 pub mod Searching

@@ -19,11 +19,9 @@ use Rattle.difference.specs.Pair.{lightness_difference}
 use Rattle.difference.specs.Verdict.{within_tolerance}
 use Rattle.difference.proofs.LightnessBound.{lightness-bound}
 use Rattle.deck.specs.Deck.{Deck, Query, FixedQuery, fixed_query, deck_refusal, search_refusal, difference_at, match_at, match_list}
-use Rattle.deck.specs.Answers.{found_of, contents_of, count_of, Refuses}
+use Rattle.deck.specs.Answers.{Found, Short, found_of, contents_of, count_of, Refuses}
 use Rattle.deck.specs.Search.{search_matches, search_tally, Searches}
 use Rattle.deck.specs.ListsMatches.{ListsMatches}
-use Rattle.deck.specs.declared.Found.{Found}
-use Rattle.deck.specs.declared.Found.TheVariants.{Short}
 use Rattle.deck.proofs.DeckLaws.{Valid, deck-valid, search-accepts, Answers, answers-fit, answers-short}
 use Rattle.deck.proofs.DeckLaws.{answer-number, answer-refused, short-refuses}
 

@@ -1,8 +1,22 @@
 -- What a search answers and what it leaves in the caller's list, of the refusal that applies (0 where none does), the
 -- places that match, and the list.
-use Rattle.std.specs.Prelude.{◌≡◌, ℕ, zero, suc, cond, List, ◌++◌, leb, length, drop}
-use Rattle.deck.specs.declared.Found.{Found}
-use Rattle.deck.specs.declared.Found.TheVariants.{Count, Refused, Short}
+use Rattle.std.specs.Prelude.{◌≡◌, ℕ, zero, suc, cond, List, ◌++◌, leb, length, drop, Result, Ok, Err}
+use Rattle.refusal.specs.Refusals.{number_of as refusal_number}
+use Rattle.deck.specs.declared.SearchError.{SearchError}
+use Rattle.deck.specs.declared.SearchError.TheVariants.{Refused as Refuses_by, Short as Needs}
+
+-- what a search answers: the number of matches, the refusal's number, or that the list is too short, with the number of
+-- entries that it needs
+pub data Found : Type 0 where
+  Count : ℕ → Found
+  Refused : ℕ → Found
+  Short : ℕ → Found
+
+-- the answer of the code
+abbrev pub found : Result ℕ SearchError → Found
+found (Ok n) = Count n
+found (Err (Refuses_by e)) = Refused (refusal_number e)
+found (Err (Needs n)) = Short n
 
 -- the number of matches where there is room for them, otherwise the number needed
 unfoldable pub found_of : ℕ → List ℕ → ℕ → Found

@@ -3,7 +3,7 @@
 use Rattle.std.specs.Prelude.{ℕ, Bool, not, ◌&&◌, ◌||◌, cond, List, [], ◌∷◌, leb, eqb, Float, ℤ, length}
 use Rattle.places.specs.Places.{at, every, rising, matches_of}
 use Rattle.sample.specs.Sample.{Sample, Colour, colour_refusal, colour_sample}
-use Rattle.sample.specs.Refusals.{first_refusal}
+use Rattle.refusal.specs.Refusals.{first_refusal}
 use Rattle.sample.specs.declared.FixedWeights.{FixedWeights}
 use Rattle.fixed_point.specs.Refusals.{reading_refusal, weights_refusal, tolerance_refusal}
 use Rattle.fixed_point.specs.Rounding.{fixed_size}

@@ -4,3 +4,5 @@ pub mod Answers
 pub mod ListsMatches
 pub mod Search
 pub mod Inner
+pub mod InnerQuery
+pub mod InnerColumns

@@ -1,12 +1,10 @@
 -- What a search promises, of a query, a deck, and the caller's list before and after.
 use Rattle.std.specs.Prelude.{◌≡◌, ℕ, ◌≤◌, ◌<◌, List, length}
 use Rattle.places.specs.Places.{tally}
-use Rattle.sample.specs.Refusals.{first_of}
+use Rattle.refusal.specs.Refusals.{first_of}
 use Rattle.deck.specs.Deck.{Deck, Query, fixed_query, search_refusal, match_at, match_list}
-use Rattle.deck.specs.Answers.{found_of, contents_of, room_refusal, number_of, count_of, Refuses}
+use Rattle.deck.specs.Answers.{Found, Short, found_of, contents_of, room_refusal, number_of, count_of, Refuses}
 use Rattle.deck.specs.ListsMatches.{ListsMatches}
-use Rattle.deck.specs.declared.Found.{Found}
-use Rattle.deck.specs.declared.Found.TheVariants.{Short}
 
 -- the places that match
 abbrev pub search_matches : Query → Deck → List ℕ

@@ -16,10 +16,10 @@ use Rattle.deck.specs.Deck.{Deck, most_swatches, columns}
 use Rattle.deck.proofs.DeckLaws.{deck-valid}
 use Rattle.deck_file.specs.Layout.{header_bytes, swatches_bytes, file_of, count_in, colour_in, read_of}
 use Rattle.deck_file.specs.Refusals.{write_refusal}
-use Rattle.deck_file.specs.Transfers.{transfer_of, transfer_number, transfer_size, write_answer, read_answer, contents_of}
+use Rattle.deck_file.specs.Transfers.{Transfer, transfer_of, transfer_number, transfer_size, write_answer, read_answer, contents_of}
 use Rattle.deck_file.specs.Transfers.{columns_after, Columns, lent, lent_refusal, front, IsFile, Writes, Reads}
-use Rattle.deck_file.specs.declared.Transfer.{Transfer}
-use Rattle.deck_file.specs.declared.Transfer.TheVariants.{Done, Refused}
+use Rattle.std.specs.Prelude.{Ok, Err}
+use Rattle.refusal.specs.Refusals.{given}
 use Rattle.deck_file.specs.Inner.{column_in}
 use Rattle.deck_file.proofs.Swatches.{ap₃}
 use Rattle.deck_file.proofs.RoundTrip.{Kept, file_of-deck, deck_of-file, form-formed, file-parts, columns-read}
@@ -32,9 +32,11 @@ by-refusal P zero h f = absurd (h refl)
 by-refusal P (suc k) h f = f k
 
 module _ {r k : ℕ} (e : r ≡ k) (h : r ≡ 0 → ⊥) where
-  pub refused-answer : (n : ℕ) → Refused r ≡ transfer_of k n
-  unfolding transfer_of
-  refused-answer n = ap Refused e ∙ by-refusal (λ j. Refused j ≡ transfer_of j n) k (λ z. h (e ∙ z)) (λ j. refl)
+  pub refused-answer : (n : ℕ) → Path Transfer (Err r) (transfer_of k n)
+  unfolding given
+  refused-answer n =
+      let is : Path Transfer (Err r) (Err k) = λ i. Err (e i) in
+      is ∙ by-refusal (λ j. Path Transfer (Err j) (transfer_of j n)) k (λ z. h (e ∙ z)) (λ j. refl)
 
   pub refused-contents : {A : Type 0} (new old : List A) → old ≡ contents_of k new old
   unfolding contents_of
@@ -42,9 +44,10 @@ module _ {r k : ℕ} (e : r ≡ k) (h : r ≡ 0 → ⊥) where
 
 -- ---- no refusal
 
-pub done-answer : {k m n : ℕ} → k ≡ 0 → m ≡ n → Done m ≡ transfer_of k n
-unfolding transfer_of
-done-answer {n = n} z e = ap Done e ∙ ap (λ j. transfer_of j n) (sym z)
+pub done-answer : {k m n : ℕ} → k ≡ 0 → m ≡ n → Path Transfer (Ok m) (transfer_of k n)
+unfolding given
+done-answer {m = m} {n = n} z e =
+    let is : Path Transfer (Ok m) (Ok n) = λ i. Ok (e i) in is ∙ ap (λ j. transfer_of j n) (sym z)
 
 pub done-contents : {A : Type 0} (new old : List A) {k n : ℕ} {last : List A} → k ≡ 0 → length new ≡ n
     → last ≡ new ++ drop n old → last ≡ contents_of k new old
@@ -55,13 +58,13 @@ done-contents new old z e h =
 -- ---- what each answer and its contents say
 
 pub number_is : (k n : ℕ) → transfer_number (transfer_of k n) ≡ k
-unfolding transfer_of
+unfolding given
 number_is zero n = refl
 number_is (suc k) n = refl
 
 pub contents-kept : {A : Type 0} (k n : ℕ) (new old : List A) → length new ≡ n
     → drop (transfer_size (transfer_of k n)) (contents_of k new old) ≡ drop (transfer_size (transfer_of k n)) old
-unfolding transfer_of contents_of
+unfolding given contents_of
 contents-kept zero n new old e = drop_at new (drop (length new) old) n e ∙ ap (λ m. drop m old) e
 contents-kept (suc k) n new old e = refl
 
@@ -80,14 +83,14 @@ module _ (d : Deck) (old : List ℕ) where
         back = back;
       }
 
-  pub writes-refused : {r : ℕ} → r ≡ write_refusal d (length old) → (r ≡ 0 → ⊥) → Writes d old old (Refused r)
+  pub writes-refused : {r : ℕ} → r ≡ write_refusal d (length old) → (r ≡ 0 → ⊥) → Writes d old old (Err r)
   writes-refused e h =
       writes (refused-answer e h (length (file_of d))) (refused-contents e h (file_of d) old) (λ z. absurd (h (e ∙ z)))
 
   -- the header, then the swatches
   pub writes-done : {m n at r : ℕ} {mid new : List ℕ} → Kept d → write_refusal d (length old) ≡ 0
       → Written old 0 (header_bytes d.count) m mid at
-      → Written mid at (swatches_bytes d.colour d.count) n new r → Writes d old new (Done r)
+      → Written mid at (swatches_bytes d.colour d.count) n new r → Writes d old new (Ok r)
   unfolding file_of
   writes-done {r = r} {new = new} kept z header swatches =
       let ok = write-accepts d (length old) z in
@@ -123,7 +126,7 @@ module _ (bs : List ℕ) (l a b : List ℤ) where
         back = back;
       }
 
-  pub reads-refused : {r : ℕ} → r ≡ refusal → (r ≡ 0 → ⊥) → Reads bs old old (Refused r)
+  pub reads-refused : {r : ℕ} → r ≡ refusal → (r ≡ 0 → ⊥) → Reads bs old old (Err r)
   unfolding columns_after
   reads-refused e h =
       reads (refused-answer e h (count_in bs))
@@ -142,7 +145,7 @@ module _ (bs : List ℕ) (l a b : List ℤ) where
 
   pub reads-done : {n : ℕ} {l' a' b' : List ℤ} → Bytes bs → refusal ≡ 0 → n ≡ count_in bs
       → l' ≡ column_of (column_in bs 7) n ++ drop n l → a' ≡ column_of (column_in bs 11) n ++ drop n a
-      → b' ≡ column_of (column_in bs 15) n ++ drop n b → Reads bs old (lent l' a' b') (Done n)
+      → b' ≡ column_of (column_in bs 15) n ++ drop n b → Reads bs old (lent l' a' b') (Ok n)
   unfolding columns_after colour_in
   reads-done bytes z e el ea eb =
       let ok = read-accepts bs (length l) (length a) (length b) z in

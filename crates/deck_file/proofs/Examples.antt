@@ -5,7 +5,7 @@ use Prim.Native.Nat.{ℕ}
 use lib.IntN.{pos, negsuc}
 use Rattle.places.specs.Places.{every, rising}
 use Rattle.sample.specs.Sample.{colour_refusal}
-use Rattle.sample.specs.Refusals.{first_refusal}
+use Rattle.refusal.specs.Refusals.{first_refusal}
 use Rattle.buffer.specs.Numbers.{bytes_of, unsigned_of, signed_bytes, signed_of, same}
 use Rattle.deck.specs.Deck.{columns, columns_at, sizes_in, swatches_in, lightness_rises, deck_refusal}
 use Rattle.deck_file.specs.Layout.{swatch_bytes, swatches_bytes, header_bytes, file_of, version_in, count_in, colour_in, read_of}

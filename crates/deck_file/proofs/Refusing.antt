@@ -6,14 +6,11 @@ use Prim.Native.Nat.{ℕ, ◌+◌, ◌*◌, ◌≤◌, ◌<◌}
 use lib.Dec.{leb, eqb}
 use lib.ListN.{length, take}
 use borrow.Author.Tests.{le-leb, lt-leb, leb-true, eq-eqb, ne_eqb}
-use Rattle.places.specs.Places.{every}
-use Rattle.sample.specs.Refusals.{first_of, first_refusal}
-use Rattle.sample.proofs.RefusalLaws.{first-none, first-applies, first-last, first-cons, first-assoc}
+use Rattle.refusal.specs.Refusals.{number_of, first_of, first_refusal}
+use Rattle.refusal.specs.declared.Refusal.{Refusal}
+use Rattle.refusal.proofs.RefusalLaws.{first-none, first-last, first-cons, first-assoc, first-refused}
 use Rattle.buffer.specs.Numbers.{same}
-use Rattle.deck.specs.Deck.{Deck, most_swatches, deck_refusal}
-use Rattle.deck.specs.Inner.{swatch_in_order}
-use Rattle.deck.proofs.DeckLaws.{refusal_is}
-use Rattle.deck.proofs.Orderly.{orderly-refusal}
+use Rattle.deck.specs.Deck.{Deck, deck_refusal}
 use Rattle.deck_file.specs.Layout.{mark, version, file_of, version_in, count_in, read_of}
 use Rattle.deck_file.specs.Refusals.{mark_refusal, version_refusal, length_refusal, file_refusal, room_refusal}
 use Rattle.deck_file.specs.Refusals.{write_refusal, read_refusal}
@@ -60,20 +57,6 @@ module _ (bs : List ℕ) where
       unfolding first_refusal
       form-right e = form-is true true true m right (eq-eqb _ _ e)
 
--- ---- the deck in a file, whose count is n
-
-module _ (bs : List ℕ) (n : ℕ) (e : n ≡ count_in bs) where
-  pub too_many : most_swatches < n → 6 ≡ deck_refusal (read_of bs)
-  too_many h =
-      let sized : leb (count_in bs) most_swatches ≡ false = rw (← e) (lt-leb n most_swatches h) in
-      refusal_is (read_of bs) false _ _ sized refl refl
-
-  pub tested : (t : Bool) → n ≤ most_swatches → every (swatch_in_order (read_of bs)) n ≡ t
-      → cond t 0 7 ≡ deck_refusal (read_of bs)
-  tested t h f =
-      let sized : leb (count_in bs) most_swatches ≡ true = rw (← e) (le-leb n most_swatches h) in
-      orderly-refusal (read_of bs) t sized (ap (every (swatch_in_order (read_of bs))) (sym e) ∙ f)
-
 -- ---- the order
 
 two-are : (m n : ℕ) → first_refusal (m ∷ n ∷ []) ≡ first_of m n
@@ -85,14 +68,12 @@ module _ (d : Deck) (room : ℕ) where
   write-is =
       two-are (deck_refusal d) _ ∙ ap (λ n. first_of (deck_refusal d) (room_refusal (leb n room))) (file-length d)
 
-  pub write-by-deck : {r : ℕ} → r ≡ deck_refusal d → (r ≡ 0 → ⊥) → r ≡ write_refusal d room
-  write-by-deck {r} e h =
-      let by-room : ℕ = room_refusal (leb (7 + 12 * d.count) room) in
-      first-applies r by-room h ∙ ap (λ k. first_of k by-room) e ∙ sym write-is
+  pub write-by-deck : (e : Refusal) → number_of e ≡ deck_refusal d → number_of e ≡ write_refusal d room
+  write-by-deck e h = sym (write-is ∙ first-refused e _ h)
 
-  pub write-by_room : {r : ℕ} → deck_refusal d ≡ 0 → r ≡ room_refusal (leb (7 + 12 * d.count) room) → r ≡ write_refusal d room
+  pub write-by_room : {r : ℕ} → 0 ≡ deck_refusal d → r ≡ room_refusal (leb (7 + 12 * d.count) room) → r ≡ write_refusal d room
   write-by_room {r} e f =
-      f ∙ ap (λ k. first_of k (room_refusal (leb (7 + 12 * d.count) room))) (sym e) ∙ sym write-is
+      f ∙ ap (λ k. first_of k (room_refusal (leb (7 + 12 * d.count) room))) e ∙ sym write-is
 
   pub write-accepts : write_refusal d room ≡ 0 → (deck_refusal d ≡ 0) × (length (file_of d) ≤ room)
   unfolding write_refusal
@@ -109,15 +90,16 @@ module _ (bs : List ℕ) (l a b : ℕ) where
       two-are (file_refusal bs) by_room ∙ ap (λ k. first_of k by_room) (sym (file-is bs))
       ∙ first-assoc (form_refusal bs) (deck_refusal (read_of bs)) by_room
 
-  pub read-by-form : {r : ℕ} → r ≡ form_refusal bs → (r ≡ 0 → ⊥) → r ≡ read_refusal bs l a b
-  read-by-form {r} e h =
-      let later : ℕ = first_of (deck_refusal (read_of bs)) by_room in
-      first-applies r later h ∙ ap (λ k. first_of k later) e ∙ sym read_is
+  pub read-by-form : (e : Refusal) → number_of e ≡ form_refusal bs → number_of e ≡ read_refusal bs l a b
+  read-by-form e h = sym (read_is ∙ first-refused e _ h)
 
-  pub read-later : {f d o r : ℕ} → f ≡ form_refusal bs → f ≡ 0 → d ≡ deck_refusal (read_of bs) → o ≡ by_room → r ≡ first_of d o
-      → r ≡ read_refusal bs l a b
-  read-later ef zf ed eo er =
-      er ∙ ap₂ first_of ed eo ∙ ap (λ k. first_of k (first_of (deck_refusal (read_of bs)) by_room)) (sym zf ∙ ef) ∙ sym read_is
+  pub read-by-deck : (e : Refusal) → 0 ≡ form_refusal bs → number_of e ≡ deck_refusal (read_of bs) → number_of e ≡ read_refusal bs l a b
+  read-by-deck e z h =
+      sym (read_is ∙ ap (λ k. first_of k (first_of (deck_refusal (read_of bs)) by_room)) (sym z) ∙ first-refused e _ h)
+
+  pub read-by_room : {r : ℕ} → 0 ≡ form_refusal bs → 0 ≡ deck_refusal (read_of bs) → r ≡ by_room → r ≡ read_refusal bs l a b
+  read-by_room z d h =
+      h ∙ sym (read_is ∙ ap₂ first_of (sym z) (ap (λ k. first_of k by_room) (sym d)))
 
   pub record Accepts : Type 0 where
     pub file : file_refusal bs ≡ 0

@@ -14,18 +14,18 @@ use lib.Seq.{take_all, drop-drop, drop-append-add}
 use Rattle.places.specs.Places.{at, column_of}
 use Rattle.places.proofs.Columns.{column-length, column-at, column-past}
 use Rattle.sample.specs.Sample.{Colour, colour_refusal, colour_sample}
-use Rattle.sample.specs.Refusals.{first_of, first_refusal}
+use Rattle.refusal.specs.Refusals.{first_of, first_refusal}
 use Rattle.sample.proofs.SampleLaws.{accepted-in}
-use Rattle.sample.proofs.RefusalLaws.{none_of, first-none, first-last, first_then}
+use Rattle.refusal.proofs.RefusalLaws.{none_of, first-none, first-last, first_then}
 use Rattle.buffer.specs.Numbers.{bytes_of, unsigned_of, signed_bytes, signed_of, field, same}
 use Rattle.buffer.proofs.NumberLaws.{Bytes, field-join, bytes-of-field, signed_back, bytes_back, same-is}
 use Rattle.deck.specs.Deck.{Deck, most_swatches, columns_at, columns, deck_refusal}
-use Rattle.deck.proofs.DeckLaws.{Sizes, sizes-are, sizes-in, deck-valid}
+use Rattle.deck.specs.Inner.{Sizes}
+use Rattle.deck.proofs.DeckLaws.{sizes-are, sizes-in, deck-valid}
 use Rattle.deck_file.specs.Layout.{mark, version, swatch_bytes, swatches_bytes, header_bytes, file_of}
 use Rattle.deck_file.specs.Layout.{version_in, count_in, colour_in, read_of}
 use Rattle.deck_file.specs.Refusals.{mark_refusal, version_refusal, length_refusal, file_refusal, write_refusal}
-use Rattle.deck_file.specs.Transfers.{IsFile, Writes, Reads, Columns, front, transfer_size, lent_refusal}
-use Rattle.deck_file.specs.declared.Transfer.{Transfer}
+use Rattle.deck_file.specs.Transfers.{Transfer, IsFile, Writes, Reads, Columns, front, transfer_size, lent_refusal}
 use Rattle.deck_file.specs.Inner.{form_refusal, colour}
 use Rattle.deck_file.proofs.Swatches.{ap₃, swatches-length, swatch-from}
 

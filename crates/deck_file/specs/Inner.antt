@@ -2,7 +2,7 @@
 use Rattle.std.specs.Prelude.{List, [], ◌∷◌, ℕ, ◌+◌, ◌*◌, ℤ}
 use Rattle.buffer.specs.Numbers.{signed_of, field}
 use Rattle.sample.specs.Sample.{Colour}
-use Rattle.sample.specs.Refusals.{first_refusal}
+use Rattle.refusal.specs.Refusals.{first_refusal}
 use Rattle.deck_file.specs.Refusals.{mark_refusal, version_refusal, length_refusal}
 
 -- the first that applies of 10, 11 and 12

@@ -1,7 +1,7 @@
 -- Which bytes, which decks and which rooms are refused: 10, 11, 12, then the deck's 6 and 7, then 13.
 use Rattle.std.specs.Prelude.{Bool, cond, ◌&&◌, List, [], ◌∷◌, ℕ, ◌+◌, ◌*◌, leb, eqb, length, take}
 use Rattle.buffer.specs.Numbers.{same}
-use Rattle.sample.specs.Refusals.{first_refusal}
+use Rattle.refusal.specs.Refusals.{first_refusal}
 use Rattle.deck.specs.Deck.{Deck, deck_refusal}
 use Rattle.deck_file.specs.Layout.{mark, version, file_of, version_in, count_in, read_of}
 

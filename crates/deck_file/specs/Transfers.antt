@@ -1,28 +1,29 @@
 -- What a write and a read promise.
-use Rattle.std.specs.Prelude.{◌≡◌, List, ◌++◌, ℕ, zero, suc, ℤ, length, take, drop}
+use Rattle.std.specs.Prelude.{◌≡◌, List, ◌++◌, ℕ, zero, suc, ℤ, length, take, drop, Result, Ok, Err}
 use Rattle.places.specs.Places.{column_of}
 use Rattle.deck.specs.Deck.{Deck, columns, deck_refusal}
 use Rattle.deck_file.specs.Layout.{file_of, count_in, read_of}
 use Rattle.deck_file.specs.Refusals.{file_refusal, write_refusal, read_refusal}
-use Rattle.deck_file.specs.declared.Transfer.{Transfer}
-use Rattle.deck_file.specs.declared.Transfer.TheVariants.{Done, Refused}
+use Rattle.refusal.specs.Refusals.{given}
 
 -- ---- the answer
 
--- the length of the file or the number of swatches, where no refusal applies
-unfoldable pub transfer_of : ℕ → ℕ → Transfer
-transfer_of zero n = Done n
-transfer_of (suc k) n = Refused (suc k)
+-- the length of the file or the number of swatches, or the number of the refusal that applies
+abbrev pub Transfer : Type 0
+Transfer = Result ℕ ℕ
+
+abbrev pub transfer_of : ℕ → ℕ → Transfer
+transfer_of refusal n = given refusal n
 
 -- the refusal's number; 0 is no refusal
 abbrev pub transfer_number : Transfer → ℕ
-transfer_number (Done n) = 0
-transfer_number (Refused k) = k
+transfer_number (Ok n) = 0
+transfer_number (Err k) = k
 
 -- the length or the number of swatches, which is 0 on a refusal
 abbrev pub transfer_size : Transfer → ℕ
-transfer_size (Done n) = n
-transfer_size (Refused k) = 0
+transfer_size (Ok n) = n
+transfer_size (Err k) = 0
 
 abbrev pub write_answer : Deck → ℕ → Transfer
 write_answer d room = transfer_of (write_refusal d room) (length (file_of d))

@@ -2,17 +2,18 @@
 // mark FAN, a version, the number of swatches and 12 bytes a swatch; specs/Layout.antt has it whole.
 #![tactic(auto)]
 
-ghost use Rattle.std.specs.Prelude.{◌≡◌, ◌++◌, ℕ, ◌+◌, ◌*◌, ◌≤◌, ◌<◌, length, drop};
-ghost use Rattle.places.specs.Places.{every, column_of};
+ghost use Rattle.std.specs.Prelude.{◌≡◌, ◌++◌, ℕ, ◌+◌, ◌*◌, ◌≤◌, ◌<◌, length, drop, IfOk};
+ghost use Rattle.places.specs.Places.{column_of};
+ghost use Rattle.refusal.specs.Refusals.{refused_with, numbered};
 ghost use Rattle.buffer.specs.Writing.{Written};
-ghost use Rattle.sample.specs.Inner.{colour_of};
-ghost use Rattle.deck.specs.Deck.{columns, columns_at, deck_refusal};
-ghost use Rattle.deck.specs.Inner.{swatch_in_order};
-ghost use Rattle.deck_file.specs.Layout.{swatch_bytes, swatches_bytes, header_bytes, count_in, colour_in, read_of};
+ghost use Rattle.deck.specs.Deck.{columns, columns_at};
+ghost use Rattle.deck_file.specs.Layout.{swatch_bytes, swatches_bytes, header_bytes, count_in, read_of};
 ghost use Rattle.deck_file.specs.Refusals.{room_refusal, write_refusal, read_refusal};
 ghost use Rattle.deck_file.specs.Transfers.{lent, Writes, Reads};
 ghost use Rattle.deck_file.specs.Inner.{form_refusal, colour, column_in};
 
+use deck::Swatches;
+use refusal::Refusal;
 use sample::FixedColour;
 
 // What a file starts with.
@@ -33,19 +34,11 @@ const NUMBER: usize = 4;
 
 const SWATCH: usize = 12;
 
-// What a write or a read answers: the length of the file or the number of swatches, or the refusal's
-// number.
-#[derive(Clone, Copy)]
-pub enum Transfer {
-    Done(usize),
-    Refused(u8),
-}
-
-// Refusal 13 where there is not room enough, or 0.
-pub fn room_refusal(enough: bool) -> u8
-    ensures { result ≡ room_refusal enough }
+// Refusal 13 where there is not room enough.
+pub fn check_room(enough: bool) -> Result<(), Refusal>
+    ensures { refused_with result ≡ room_refusal enough }
 {
-    if enough { 0 } else { 13 }
+    if enough { Ok(()) } else { Err(Refusal::Room) }
 }
 
 // ---- writing
@@ -79,39 +72,31 @@ fn put_swatches(l: &[i32], a: &[i32], b: &[i32], file: &mut [u8], at: usize) -> 
         Written file.old at bytes (12 * n) file.new result }
 {
     let mut end = at;
-    let mut k = 0;
-    while k < l.len() {
+    for k in 0..l.len() {
         end = put_swatch(file, end, l[k], a[k], b[k]);
-        k += 1;
     }
     end
 }
 
-// The first that applies to a write: 6, 7 or 13, or 0.
-fn write_refusal(l: &[i32], a: &[i32], b: &[i32], room: usize) -> u8
+// The first that applies to a write: 6, 7 or 13.
+fn check_write(l: &[i32], a: &[i32], b: &[i32], room: usize) -> Result<(), Refusal>
     ensures { let deck = columns l.now a.now b.now in
-        result ≡ write_refusal deck room }
+        refused_with result ≡ write_refusal deck room }
 {
-    let by_deck = deck::deck_refusal(l, a, b);
-    if by_deck != 0 {
-        return by_deck;
-    }
-    room_refusal(HEADER + SWATCH * l.len() <= room)
+    deck::check_deck(l, a, b)?;
+    check_room(HEADER + SWATCH * l.len() <= room)
 }
 
-// Writes a deck to the front of the caller's list. `Writes` says all, for every call.
-pub fn write(l: &[i32], a: &[i32], b: &[i32], file: &mut [u8]) -> Transfer
+// Writes a deck to the front of the caller's list; the length of the file. `Writes` says all, for every call.
+pub fn write(l: &[i32], a: &[i32], b: &[i32], file: &mut [u8]) -> Result<usize, Refusal>
     ensures writes { let deck = columns l.now a.now b.now in
-        Writes deck file.old file.new result }
+        Writes deck file.old file.new (numbered result) }
     ensures columns { (l.exit.now ≡ l.entry.now)
         × ((a.exit.now ≡ a.entry.now) × (b.exit.now ≡ b.entry.now)) }
 {
-    let refusal = write_refusal(l, a, b, file.len());
-    if refusal != 0 {
-        return Transfer::Refused(refusal);
-    }
+    check_write(l, a, b, file.len())?;
     let start = put_header(file, l.len() as u16);
-    Transfer::Done(put_swatches(l, a, b, file, start))
+    Ok(put_swatches(l, a, b, file, start))
 }
 
 // ---- reading
@@ -124,86 +109,68 @@ fn count_in(file: &[u8]) -> usize
     buffer::u16_at(file, VERSION_END) as usize
 }
 
-// The first that applies to the form of a file: 10, 11 or 12, or 0.
-fn form_refusal(file: &[u8]) -> u8
-    ensures { result ≡ form_refusal file.now }
+// The first that applies to the form of a file: 10, 11 or 12.
+fn check_form(file: &[u8]) -> Result<(), Refusal>
+    ensures { refused_with result ≡ form_refusal file.now }
 {
     let length = file.len();
-    if buffer::starts_with(file, &MARK) {
-        if length < VERSION_END {
-            return 11;
-        }
-        if buffer::u16_at(file, MARK_END) != VERSION {
-            return 11;
-        }
-        if length < HEADER {
-            return 12;
-        }
-        if length == HEADER + SWATCH * count_in(file) {
-            return 0;
-        }
-        return 12;
+    if !buffer::starts_with(file, &MARK) {
+        return Err(Refusal::Mark);
     }
-    10
+    if length < VERSION_END {
+        return Err(Refusal::Version);
+    }
+    if buffer::u16_at(file, MARK_END) != VERSION {
+        return Err(Refusal::Version);
+    }
+    if length < HEADER {
+        return Err(Refusal::Length);
+    }
+    if length != HEADER + SWATCH * count_in(file) {
+        return Err(Refusal::Length);
+    }
+    Ok(())
 }
 
-// The swatch at a place.
-fn colour_in(file: &[u8], k: usize) -> FixedColour
-    requires { 19 + 12 * k ≤ length file.now }
-    ensures { colour_of result ≡ colour_in file.now k }
-{
-    let at = HEADER + SWATCH * k;
-    FixedColour {
-        l: signed::from_i32(buffer::i32_at(file, at)),
-        a: signed::from_i32(buffer::i32_at(file, at + NUMBER)),
-        b: signed::from_i32(buffer::i32_at(file, at + 2 * NUMBER)),
+// The bytes of a file whose length fits its count.
+#[derive(Clone, Copy)]
+struct Formed<'a> {
+    bytes: &'a [u8],
+    ghost fits: { length bytes.now ≡ 7 + 12 * count_in bytes.now },
+}
+
+impl<'a> Swatches for Formed<'a> {
+    ghost deck = { λ f. read_of f.bytes.now };
+
+    fn is_sized(&self) -> bool {
+        count_in(self.bytes) <= deck::MOST_SWATCHES
+    }
+
+    fn count(&self) -> usize {
+        count_in(self.bytes)
+    }
+
+    fn colour(&self, k: usize) -> FixedColour {
+        let at = HEADER + SWATCH * k;
+        FixedColour {
+            l: buffer::i32_at(self.bytes, at),
+            a: buffer::i32_at(self.bytes, at + NUMBER),
+            b: buffer::i32_at(self.bytes, at + 2 * NUMBER),
+        }
     }
 }
 
-// Whether each of the first n swatches is within the limits and no darker than the one before it.
-fn swatches_in_order(file: &[u8], n: usize) -> bool
-    requires { 7 + 12 * n ≤ length file.now }
-    ensures { result ≡ every (swatch_in_order (read_of file.now)) n }
+// The number of swatches, or the first that applies to a read: 10, 11, 12, 6, 7 or 13.
+fn check_read(file: &[u8], l_room: usize, a_room: usize, b_room: usize) -> Result<usize, Refusal>
+    ensures refusal { refused_with result ≡ read_refusal file.now l_room a_room b_room }
+    ensures count { IfOk result (λ n. n ≡ count_in file.now) }
 {
-    let mut orderly = true;
-    let mut before = 0;
-    let mut k = 0;
-    while k < n {
-        let l = buffer::i32_at(file, HEADER + SWATCH * k);
-        let within = sample::colour_refusal(colour_in(file, k)) == 0;
-        orderly = orderly & ((before <= l) & within);
-        before = l;
-        k += 1;
-    }
-    orderly
-}
-
-// Refusal 6 or 7 of the deck in a file, or 0.
-fn deck_refusal_in(file: &[u8], n: usize) -> u8
-    requires { (n ≡ count_in file.now) × (7 + 12 * n ≤ length file.now) }
-    ensures { result ≡ deck_refusal (read_of file.now) }
-{
-    if deck::MOST_SWATCHES < n {
-        return 6;
-    }
-    if swatches_in_order(file, n) {
-        return 0;
-    }
-    7
-}
-
-// The first that applies to a read: 10, 11, 12, 6, 7 or 13, or 0.
-fn read_refusal(file: &[u8], l_room: usize, a_room: usize, b_room: usize) -> u8
-    ensures { result ≡ read_refusal file.now l_room a_room b_room }
-{
-    let by_form = form_refusal(file);
-    if by_form != 0 {
-        return by_form;
-    }
-    let n = count_in(file);
-    let by_deck = deck_refusal_in(file, n);
-    let by_room = room_refusal((n <= l_room) & ((n <= a_room) & (n <= b_room)));
-    sample::first_of(by_deck, by_room)
+    check_form(file)?;
+    let formed = Formed { bytes: file };
+    deck::check_swatches(&formed)?;
+    let n = formed.count();
+    check_room((n <= l_room) & ((n <= a_room) & (n <= b_room)))?;
+    Ok(n)
 }
 
 // Reads the numbers that stand 12 bytes apart, from a place on, to the front of a column.
@@ -213,27 +180,21 @@ fn read_column(file: &[u8], first: usize, n: usize, column: &mut [i32])
     ensures { let numbers = column_of (column_in file.now first) n in
         column.new ≡ numbers ++ drop n column.old }
 {
-    let mut k = 0;
-    while k < n {
+    for k in 0..n {
         column[k] = buffer::i32_at(file, first + SWATCH * k);
-        k += 1;
     }
 }
 
-// Reads a deck to the front of the caller's columns. `Reads` says all, for every call.
-pub fn read(file: &[u8], l: &mut [i32], a: &mut [i32], b: &mut [i32]) -> Transfer
+// Reads a deck to the front of the caller's columns; the number of its swatches. `Reads` says all, for every call.
+pub fn read(file: &[u8], l: &mut [i32], a: &mut [i32], b: &mut [i32]) -> Result<usize, Refusal>
     ensures reads { let old = lent l.old a.old b.old in
         let new = lent l.new a.new b.new in
-        Reads file.now old new result }
+        Reads file.now old new (numbered result) }
     ensures file { file.exit.now ≡ file.entry.now }
 {
-    let refusal = read_refusal(file, l.len(), a.len(), b.len());
-    if refusal != 0 {
-        return Transfer::Refused(refusal);
-    }
-    let n = count_in(file);
+    let n = check_read(file, l.len(), a.len(), b.len())?;
     read_column(file, HEADER, n, l);
     read_column(file, HEADER + NUMBER, n, a);
     read_column(file, HEADER + 2 * NUMBER, n, b);
-    Transfer::Done(n)
+    Ok(n)
 }

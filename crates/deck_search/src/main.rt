@@ -4,42 +4,65 @@
 
 ghost use Rattle.std.specs.Prelude.{◌≡◌, length};
 
-use deck::Found;
+use deck::SearchError;
 use fixed_point::{Reading, Weights};
+use signed::Int;
 use std::io;
 
-fn print_place(rt: &impl Print, place: u16) -> io::Result<()> {
-    print!(rt; " {place}")
+const ONES: Weights = Weights {
+    l: 1.0,
+    c: 1.0,
+    h: 1.0,
+};
+
+const GREY50: Reading = Reading {
+    l: 50.0,
+    a: 0.0,
+    b: 0.0,
+};
+
+// The swatch at place 150 of the generated ones, as a reading.
+const PLACE150: Reading = Reading {
+    l: 49.995,
+    a: 5.0,
+    b: -10.0,
+};
+
+// The columns of a deck.
+#[derive(Clone, Copy)]
+struct Columns<'a> {
+    l: &'a [i32],
+    a: &'a [i32],
+    b: &'a [i32],
 }
 
 // The places that a search listed.
 fn print_places(rt: &impl Print, places: &[u16], n: usize) -> io::Result<()> {
     for place in places.iter().take(n) {
-        print_place(rt, *place)?;
+        print!(rt; " {place}")?;
     }
     Ok(())
 }
 
 // The first entry of the caller's list, which a refusal leaves as it was.
 fn print_first(rt: &impl Print, places: &[u16]) -> io::Result<()> {
-    if 0 < places.len() {
-        print!(rt; ", the list begins with")?;
-        print_place(rt, places[0])?;
+    match places.first() {
+        Some(place) => print!(rt; ", the list begins with {place}"),
+        None => Ok(()),
     }
-    Ok(())
 }
 
-fn report(rt: &impl Print, found: Found, places: &[u16]) -> io::Result<()> {
+fn report(rt: &impl Print, found: Result<usize, SearchError>, places: &[u16]) -> io::Result<()> {
     match found {
-        Found::Count(n) => {
+        Ok(n) => {
             print!(rt; "{n} found:")?;
             print_places(rt, places, n)?;
         }
-        Found::Refused(number) => {
-            print!(rt; "refused {number}")?;
+        Err(SearchError::Refused(refusal)) => {
+            print!(rt; "refused {}", refusal.number())?;
             print_first(rt, places)?;
         }
-        Found::Short(n) => {
+        Err(SearchError::Short(n)) => {
             print!(rt; "refused 8, needs {n}")?;
             print_first(rt, places)?;
         }
@@ -50,120 +73,81 @@ fn report(rt: &impl Print, found: Found, places: &[u16]) -> io::Result<()> {
 fn case(
     rt: &impl Print,
     title: &str,
-    l: &[i32],
-    a: &[i32],
-    b: &[i32],
+    deck: Columns,
     reading: Reading,
     weights: Weights,
     tolerance: f32,
     places: &mut [u16],
 ) -> io::Result<()> {
-    print!(rt; "{title}")?;
-    let found = deck::search(l, a, b, reading, weights, tolerance, places);
+    print!(rt; "{title}: ")?;
+    let found = deck::search(deck.l, deck.a, deck.b, reading, weights, tolerance, places);
     report(rt, found, places)
-}
-
-fn ones() -> Weights {
-    Weights {
-        l: 1.0,
-        c: 1.0,
-        h: 1.0,
-    }
-}
-
-fn grey50() -> Reading {
-    Reading {
-        l: 50.0,
-        a: 0.0,
-        b: 0.0,
-    }
 }
 
 // The deck of greys, and what is refused of it.
 fn grey_cases(rt: &impl Print) -> io::Result<()> {
-    let l = [400000, 450000, 500000, 500000, 600000];
     let zeros = [0; 5];
+    let deck = Columns {
+        l: &[400000, 450000, 500000, 500000, 600000],
+        a: &zeros,
+        b: &zeros,
+    };
     let mut places = [65535; 5];
     case(
         rt,
-        "grey deck, tolerance 5: ",
-        &l,
-        &zeros,
-        &zeros,
-        grey50(),
-        ones(),
+        "grey deck, tolerance 5",
+        deck,
+        GREY50,
+        ONES,
         5.0,
         &mut places,
     )?;
     let mut two = [65535; 2];
     case(
         rt,
-        "grey deck, room for 2: ",
-        &l,
-        &zeros,
-        &zeros,
-        grey50(),
-        ones(),
+        "grey deck, room for 2",
+        deck,
+        GREY50,
+        ONES,
         5.0,
         &mut two,
     )
 }
 
 fn refused_cases(rt: &impl Print) -> io::Result<()> {
-    let l = [400000, 450000, 500000];
-    let falling = [400000, 500000, 450000];
     let zeros = [0; 3];
-    let fewer = [0; 2];
+    let falling = Columns {
+        l: &[400000, 500000, 450000],
+        a: &zeros,
+        b: &zeros,
+    };
+    let unequal = Columns {
+        l: &[400000, 450000, 500000],
+        a: &zeros,
+        b: &zeros[..2],
+    };
     let mut two = [65535; 2];
+    case(rt, "falling deck", falling, GREY50, ONES, 5.0, &mut two)?;
+    case(rt, "unequal columns", unequal, GREY50, ONES, 5.0, &mut two)?;
     case(
         rt,
-        "falling deck: ",
-        &falling,
-        &zeros,
-        &zeros,
-        grey50(),
-        ones(),
-        5.0,
-        &mut two,
-    )?;
-    case(
-        rt,
-        "unequal columns: ",
-        &l,
-        &zeros,
-        &fewer,
-        grey50(),
-        ones(),
-        5.0,
-        &mut two,
-    )?;
-    case(
-        rt,
-        "falling deck, tolerance 101: ",
-        &falling,
-        &zeros,
-        &zeros,
-        grey50(),
-        ones(),
+        "falling deck, tolerance 101",
+        falling,
+        GREY50,
+        ONES,
         101.0,
         &mut two,
     )
 }
 
-fn empty_case(rt: &impl Print, column: &[i32]) -> io::Result<()> {
-    let none = &column[..0];
+fn empty_case(rt: &impl Print) -> io::Result<()> {
+    let none = Columns {
+        l: &[],
+        a: &[],
+        b: &[],
+    };
     let mut two = [65535; 2];
-    case(
-        rt,
-        "empty deck: ",
-        none,
-        none,
-        none,
-        grey50(),
-        ones(),
-        5.0,
-        &mut two,
-    )
+    case(rt, "empty deck", none, GREY50, ONES, 5.0, &mut two)
 }
 
 // a or b of a generated swatch: whole units from -20 to 20.
@@ -178,103 +162,62 @@ fn generate(l: &mut [i32; 300], a: &mut [i32; 300], b: &mut [i32; 300])
     ensures { (length l.new ≡ 300)
         × ((length a.new ≡ 300) × (length b.new ≡ 300)) }
 {
-    let mut k = 0;
-    while k < 300 {
-        l[k] = signed::to_i32(signed::natural((k * 3333) as u64));
+    for k in 0..300 {
+        l[k] = signed::to_i32(Int::from((k * 3333) as u64));
         a[k] = opponent(k * 7);
         b[k] = opponent(k * 11);
-        k += 1;
-    }
-}
-
-// The swatch at place 150 of the generated ones, as a reading.
-fn place150() -> Reading {
-    Reading {
-        l: 49.995,
-        a: 5.0,
-        b: -10.0,
     }
 }
 
 // The generated deck at several tolerances and weights.
-fn generated_cases(rt: &impl Print, l: &[i32], a: &[i32], b: &[i32]) -> io::Result<()> {
-    let reading = place150();
+fn generated_cases(rt: &impl Print, deck: Columns) -> io::Result<()> {
     let heavy = Weights {
         l: 2.0,
         c: 1.0,
         h: 0.5,
     };
     let mut places = [65535; 300];
+    case(rt, "tolerance 0", deck, PLACE150, ONES, 0.0, &mut places)?;
+    case(rt, "tolerance 12", deck, PLACE150, ONES, 12.0, &mut places)?;
     case(
         rt,
-        "tolerance 0: ",
-        l,
-        a,
-        b,
-        reading,
-        ones(),
-        0.0,
-        &mut places,
-    )?;
-    case(
-        rt,
-        "tolerance 12: ",
-        l,
-        a,
-        b,
-        reading,
-        ones(),
-        12.0,
-        &mut places,
-    )?;
-    case(
-        rt,
-        "tolerance 12, kL 2, kH 0.5: ",
-        l,
-        a,
-        b,
-        reading,
+        "tolerance 12, kL 2, kH 0.5",
+        deck,
+        PLACE150,
         heavy,
         12.0,
         &mut places,
     )?;
     case(
         rt,
-        "tolerance 100: ",
-        l,
-        a,
-        b,
-        reading,
-        ones(),
+        "tolerance 100",
+        deck,
+        PLACE150,
+        ONES,
         100.0,
         &mut places,
     )
 }
 
 // As many places as the list has room for, and one more.
-fn room_cases(rt: &impl Print, l: &[i32], a: &[i32], b: &[i32]) -> io::Result<()> {
-    let reading = place150();
+fn room_cases(rt: &impl Print, deck: Columns) -> io::Result<()> {
     let mut exact = [65535; 18];
     case(
         rt,
-        "tolerance 12, room for 18: ",
-        l,
-        a,
-        b,
-        reading,
-        ones(),
+        "tolerance 12, room for 18",
+        deck,
+        PLACE150,
+        ONES,
         12.0,
         &mut exact,
     )?;
     let mut short = [65535; 17];
     case(
         rt,
-        "tolerance 12, room for 17: ",
-        l,
-        a,
-        b,
-        reading,
-        ones(),
+        "tolerance 12, room for 17",
+        deck,
+        PLACE150,
+        ONES,
         12.0,
         &mut short,
     )
@@ -283,11 +226,16 @@ fn room_cases(rt: &impl Print, l: &[i32], a: &[i32], b: &[i32]) -> io::Result<()
 fn main(rt: HostRuntime) -> io::Result<()> {
     grey_cases(&rt)?;
     refused_cases(&rt)?;
+    empty_case(&rt)?;
     let mut l = [0; 300];
     let mut a = [0; 300];
     let mut b = [0; 300];
-    empty_case(&rt, &l)?;
     generate(&mut l, &mut a, &mut b);
-    generated_cases(&rt, &l, &a, &b)?;
-    room_cases(&rt, &l, &a, &b)
+    let deck = Columns {
+        l: &l,
+        a: &a,
+        b: &b,
+    };
+    generated_cases(&rt, deck)?;
+    room_cases(&rt, deck)
 }

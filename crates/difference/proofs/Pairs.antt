@@ -3,14 +3,12 @@ use mathlib.Core.Path.{◌≡◌, refl, sym, ap, ◌∙◌, subst}
 use mathlib.Core.Bool.{Bool, true, false, ◌||◌}
 use Prim.Native.Nat.{ℕ, ◌+◌, ◌≤◌}
 use native.Mathlib.Nat.{le_trans}
-use lib.Dec.{eqb, lit≤}
+use lib.Dec.{lit≤}
 use lib.IntN.{pos, ◌-ℤ◌}
 use Rattle.signed.specs.Inner.{int}
 use Rattle.signed.specs.declared.Int.{Int}
-use Rattle.hue.specs.Hue.{grey}
-use Rattle.hue.proofs.HueLaws.{quadrant-grey}
 use Rattle.hue_difference.specs.HueDifference.{no_hue_of, hue_size, hue_difference_of, mean_hue_of}
-use Rattle.hue_difference.specs.Inner.{SideIs}
+use Rattle.hue_difference.specs.Inner.{SideIs, sign_of, with_order}
 use Rattle.hue_difference.specs.declared.Side.{Side}
 use Rattle.sample.specs.Sample.{Sample}
 use Rattle.sample.specs.declared.FixedWeights.{FixedWeights}
@@ -19,11 +17,13 @@ use Rattle.chroma.proofs.ChromaLaws.{ratio-le}
 use Rattle.weighting.specs.Weighting.{hue_term}
 use Rattle.weighting.proofs.WeightingLaws.{lightness_weight-ge, lightness_weight-le, chroma_weight-ge, chroma_weight-le}
 use Rattle.weighting.proofs.WeightingLaws.{hue_weight-ge, hue_weight-le, hue_term-le, rotation-le}
+use Rattle.difference.proofs.Points.{chroma-is}
+use Rattle.std.specs.declared.cmp.Ordering.TheVariants.{Equal}
 use Rattle.difference.specs.Parts.{parts_of, combined}
 use Rattle.difference.specs.Pair.{Point, pair_ratio, primed_of, pair_far, pair_hue_difference, pair_mean_hue, point_hue, terms_of}
 use Rattle.difference.specs.Pair.{lightness_difference, chroma_difference}
 use Rattle.difference.specs.Ciede2000.{figures_from, terms00_of, parts00_of, figures_of, ciede2000_of}
-use Rattle.difference.specs.Inner.{prepared_sample, point_of, signed_parts, intermediate_figures, Ready, Coloured, HueFigures}
+use Rattle.difference.specs.Inner.{prepared_sample, point_of, signed_parts, intermediate_figures, Coloured, HueFigures}
 use Rattle.difference.specs.Inner.{IsPoints, IsParts, IsFinished, IsFigures, Millionths}
 use Rattle.difference.specs.declared.ciede2000.Terms.{Terms}
 use Rattle.difference.specs.declared.ciede2000.Hues.{Hues}
@@ -31,11 +31,11 @@ use Rattle.difference.specs.declared.ciede2000.Points.{Points}
 use Rattle.difference.specs.declared.ciede2000.Finished.{Finished}
 use Rattle.difference.specs.declared.parts.SignedParts.{SignedParts}
 use Rattle.difference.specs.declared.prepared.Prepared.{Prepared}
-use Rattle.difference.specs.declared.prepared.Coordinates.{Coordinates}
+use Rattle.chroma.specs.declared.Coordinates.{Coordinates}
 
 -- the step 6 and 7 flags of a pair
 abbrev pub Sides : Prepared → Prepared → Side → Type 0
-Sides s t d = SideIs (int s.a) (int s.b) (int t.a) (int t.b) d
+Sides s t d = SideIs (int s.ab.a) (int s.ab.b) (int t.ab.a) (int t.ab.b) d
 
 or-none : (p q r : Bool) → (p || q || r) ≡ false → (p ≡ false) × (q ≡ false)
 or-none true q r e = (e, absurd-eq q e)
@@ -46,32 +46,36 @@ or-none true q r e = (e, absurd-eq q e)
 or-none false true r e = (refl, e)
 or-none false false r e = (refl, refl)
 
+hued : (none negative : Bool) → (sign_of none negative ≡ Equal → ⊥) → none ≡ false
+hued true negative h = absurd (h refl)
+hued false negative h = refl
+
 -- where there is a hue part, neither sample is grey
 pub both-coloured : (s t : Prepared) (p q : Coordinates) (d : Side) → Sides s t d → Coloured (prepared_sample s) p → Coloured (prepared_sample t) q
-    → d.none ≡ false → (1000 ≤ p.chroma) × (1000 ≤ q.chroma)
+    → (d.sign ≡ Equal → ⊥) → (1000 ≤ p.chroma) × (1000 ≤ q.chroma)
 unfolding prepared_sample no_hue_of
-both-coloured s t p q d side u v e =
-    let g = or-none _ _ _ (sym side.none_is ∙ e) in
+both-coloured s t p q d side u v h =
+    let g = or-none _ _ _ (hued _ _ (λ e. h (side.sign_is ∙ e))) in
     (u.coloured g.0, v.coloured g.1)
 
+with-sign : (none negative : Bool) (n : ℕ) → with_order (sign_of none negative) n ≡ hue_difference_of none negative n
+unfolding hue_difference_of
+with-sign true negative n = refl
+with-sign false true n = refl
+with-sign false false n = refl
+
 pub pair_hue_difference-is : (s t : Prepared) (p q : Coordinates) {x y : Point} (d : Side) → Sides s t d → point_of p ≡ x → point_of q ≡ y → (r : Int)
-    → int r ≡ hue_difference_of d.none d.negative (hue_size (int p.a) (int p.b) p.chroma (int q.a) (int q.b) q.chroma)
+    → int r ≡ with_order d.sign (hue_size (int p.a) (int p.b) p.chroma (int q.a) (int q.b) q.chroma)
     → int r ≡ pair_hue_difference (prepared_sample s) (prepared_sample t) x y
 unfolding prepared_sample point_of pair_hue_difference
 pair_hue_difference-is s t p q d side u v r e =
-    e ∙ (λ i. hue_difference_of (side.none_is i) (side.negative_is i) (hue_size (u i).a (u i).b (u i).c (v i).a (v i).b (v i).c))
+    e ∙ (λ i. with_order (side.sign_is i) (hue_size (u i).a (u i).b (u i).c (v i).a (v i).b (v i).c)) ∙ with-sign _ _ _
 
--- the quadrant 4 is grey
-grey-is : (s : Prepared) → Ready s → eqb s.quadrant 4 ≡ grey (int s.a) (int s.b)
-grey-is s r = ap (λ (n : ℕ). eqb n 4) r.quadrant ∙ sym (quadrant-grey _ _)
-
-pub pair-mean-is : (s t : Prepared) (x y : Point) → Ready s → Ready t → (g far : Bool) (h1 h2 r : ℕ) → g ≡
-    (eqb s.quadrant 4 || eqb t.quadrant 4)
-    → far ≡ pair_far (prepared_sample s) (prepared_sample t) → h1 ≡ point_hue x → h2 ≡ point_hue y → r ≡ mean_hue_of g far h1 h2
+pub pair-mean-is : (s t : Prepared) (x y : Point) (d : Side) → Sides s t d → (h1 h2 r : ℕ)
+    → h1 ≡ point_hue x → h2 ≡ point_hue y → r ≡ mean_hue_of d.grey d.far h1 h2
     → r ≡ pair_mean_hue (prepared_sample s) (prepared_sample t) x y
-unfolding prepared_sample pair_mean_hue
-pair-mean-is s t x y u v g far h1 h2 r e f p q m =
-    m ∙ (λ i. mean_hue_of ((e ∙ (λ j. grey-is s u j || grey-is t v j)) i) (f i) (p i) (q i))
+unfolding prepared_sample pair_mean_hue pair_far
+pair-mean-is s t x y d side h1 h2 r p q m = m ∙ (λ i. mean_hue_of (side.grey_is i) (side.far_is i) (p i) (q i))
 
 -- ---- the weighting functions' bounds
 pub record TermsIn (e : Terms) : Type 0 where
@@ -122,7 +126,7 @@ finished-of w s t x r h f =
     (subst (λ (p : Point). IsFinished (figures_from w s t p (point_of x.q)) r) h.p.is f)
 
 -- every figure
-pub figures-are : (w : FixedWeights) (s t : Prepared) (x : Points) (m : Hues) (r : Finished) → Ready s → Ready t
+pub figures-are : (w : FixedWeights) (s t : Prepared) (x : Points) (m : Hues) (r : Finished)
     → IsPoints (prepared_sample s) (prepared_sample t) x → HueFigures (prepared_sample s) (prepared_sample t) (point_of x.p) (point_of x.q) m
     → IsFinished (figures_of w (prepared_sample s) (prepared_sample t)) r
     → IsFigures (figures_of w (prepared_sample s) (prepared_sample t))
@@ -138,17 +142,17 @@ pub figures-are : (w : FixedWeights) (s t : Prepared) (x : Points) (m : Hues) (r
       difference = r.difference;
     })
 unfolding intermediate_figures figures_of figures_from
-figures-are w s t x m r u v x-is h f =
+figures-are w s t x m r x-is h f =
     let one = prepared_sample s in
     let two = prepared_sample t in
     let p = x-is.p.is in
     let q = x-is.q.is in
     record {
       is = λ i. record {
-        c1 = u.chroma i;
+        c1 = chroma-is s i;
         p1 = p i;
         h1 = (h.h1 ∙ ap point_hue p) i;
-        c2 = v.chroma i;
+        c2 = chroma-is t i;
         p2 = q i;
         h2 = (h.h2 ∙ ap point_hue q) i;
         z = x-is.z i;

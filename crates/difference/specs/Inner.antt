@@ -3,15 +3,14 @@ use Rattle.std.specs.Prelude.{◌≡◌, false, ℕ, ◌+◌, ◌*◌, ◌^◌, 
 use Rattle.signed.specs.Inner.{int}
 use Rattle.signed.specs.declared.Int.{Int}
 use Rattle.sample.specs.Sample.{Sample}
-use Rattle.sample.specs.Inner.{SampleIn}
-use Rattle.hue.specs.Hue.{grey, quadrant_of}
+use Rattle.hue.specs.Hue.{grey}
 use Rattle.hue_difference.specs.Inner.{Primed}
 use Rattle.difference.specs.Parts.{Parts, squared}
-use Rattle.difference.specs.Pair.{Point, sample_chroma, pair_ratio, primed_of, point_hue, pair_far, pair_hue_difference}
+use Rattle.difference.specs.Pair.{Point, pair_ratio, primed_of, point_hue, pair_far, pair_hue_difference}
 use Rattle.difference.specs.Pair.{pair_mean_hue}
 use Rattle.difference.specs.Ciede2000.{Figures}
 use Rattle.difference.specs.declared.prepared.Prepared.{Prepared}
-use Rattle.difference.specs.declared.prepared.Coordinates.{Coordinates}
+use Rattle.chroma.specs.declared.Coordinates.{Coordinates}
 use Rattle.difference.specs.declared.parts.SignedParts.{SignedParts}
 use Rattle.difference.specs.declared.ciede2000.Hues.{Hues}
 use Rattle.difference.specs.declared.ciede2000.Points.{Points}
@@ -19,23 +18,13 @@ use Rattle.difference.specs.declared.ciede2000.Finished.{Finished}
 use Rattle.difference.specs.declared.ciede2000.Intermediates.{Intermediates}
 
 unfoldable pub prepared_sample : Prepared → Sample
-prepared_sample p = record { l = p.l; a = int p.a; b = int p.b }
+prepared_sample p = record { l = p.l; a = int p.ab.a; b = int p.ab.b }
 
 unfoldable pub point_of : Coordinates → Point
 point_of p = record { a = int p.a; b = int p.b; c = p.chroma }
 
 unfoldable pub signed_parts : SignedParts → Parts
 signed_parts p = record { l = int p.l; c = int p.c; h = int p.h }
-
--- a sample within the limits, with the chroma and the quadrant that are its own
-pub record Ready (p : Prepared) : Type 0 where
-  pub within : SampleIn (prepared_sample p)
-  pub chroma : p.chroma ≡ sample_chroma (prepared_sample p)
-  pub quadrant : p.quadrant ≡ quadrant_of (int p.a) (int p.b)
-
-pub record IsPrepared (s : Sample) (p : Prepared) : Type 0 where
-  pub is : prepared_sample p ≡ s
-  pub ready : Ready p
 
 -- the sizes that a point of an accepted sample can have
 abbrev pub CoordinatesIn : Coordinates → Type 0

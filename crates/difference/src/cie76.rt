@@ -1,5 +1,5 @@
 // CIE76.
-ghost use Rattle.sample.specs.Inner.{lab_of, SampleIn};
+ghost use Rattle.sample.specs.Inner.{lab_of};
 ghost use Rattle.difference.specs.Cie76.{cie76_of};
 ghost use Rattle.difference.specs.Inner.{Millionths};
 
@@ -7,8 +7,6 @@ use sample::Lab;
 
 // CIE76 of two samples, in millionths.
 pub fn cie76(s: Lab, t: Lab) -> u64
-    requires s_in { SampleIn (lab_of s) }
-    requires t_in { SampleIn (lab_of t) }
     ensures { Millionths (cie76_of (lab_of s) (lab_of t)) result }
 {
     let l = signed::natural_difference(t.l, s.l);

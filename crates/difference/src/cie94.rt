@@ -6,10 +6,11 @@ ghost use Rattle.signed.specs.Inner.{Within};
 ghost use Rattle.sample.specs.Inner.{WeightsIn};
 ghost use Rattle.difference.specs.Pair.{plain_of, pair_hue_difference};
 ghost use Rattle.difference.specs.Cie94.{chroma_constant, hue_constant, weighting_chroma, weighting_function, parts94_of, cie94_of};
-ghost use Rattle.difference.specs.Inner.{prepared_sample, Ready, IsPoint, IsParts, IsChroma, Weight, Millionths};
+ghost use Rattle.difference.specs.Inner.{prepared_sample, IsPoint, IsParts, IsChroma, Weight, Millionths};
 
 use super::parts::SignedParts;
-use super::prepared::{Coordinates, Prepared};
+use super::prepared::Prepared;
+use chroma::Coordinates;
 use sample::FixedWeights;
 use signed::Int;
 
@@ -29,12 +30,11 @@ pub enum Comparison {
 
 // 1000 a, 1000 b and C.
 fn plain(s: Prepared) -> Coordinates
-    requires { Ready s }
     ensures { IsPoint (prepared_sample s) (plain_of (prepared_sample s)) result }
 {
     Coordinates {
-        a: chroma::in_ten_millionths(s.a),
-        b: chroma::in_ten_millionths(s.b),
+        a: chroma::in_ten_millionths(s.ab.a),
+        b: chroma::in_ten_millionths(s.ab.b),
         chroma: s.chroma,
     }
 }
@@ -89,25 +89,12 @@ fn weighting_function(constant: u64, c: u64) -> u64
 
 // Steps 6 and 7 on 1000 a and 1000 b.
 fn hue_difference94(s: Prepared, t: Prepared) -> Int
-    requires s_ready { Ready s }
-    requires t_ready { Ready t }
     ensures { let x = prepared_sample s in
         let y = prepared_sample t in
         Within (pair_hue_difference x y (plain_of x) (plain_of y)) 4615105632 result }
 {
-    let side = hue_difference::side_of(s.a, s.b, s.quadrant, t.a, t.b, t.quadrant);
-    let p = plain(s);
-    let q = plain(t);
-    hue_difference::hue_difference(
-        side.none,
-        side.negative,
-        p.a,
-        p.b,
-        p.chroma,
-        q.a,
-        q.b,
-        q.chroma,
-    )
+    let side = hue_difference::side_of(s.ab, t.ab);
+    hue_difference::hue_difference(side.sign, plain(s), plain(t))
 }
 
 // The lightness, chroma and hue parts.
@@ -119,8 +106,6 @@ fn parts94(
     t: Prepared,
 ) -> SignedParts
     requires weights_in { WeightsIn w }
-    requires s_ready { Ready s }
-    requires t_ready { Ready t }
     ensures { IsParts (parts94_of application comparison w (prepared_sample s) (prepared_sample t)) result }
 {
     let h = hue_difference94(s, t);
@@ -141,8 +126,6 @@ pub fn cie94(
     t: Prepared,
 ) -> u64
     requires weights_in { WeightsIn w }
-    requires s_ready { Ready s }
-    requires t_ready { Ready t }
     ensures { Millionths (cie94_of application comparison w (prepared_sample s) (prepared_sample t)) result }
 {
     super::parts::root_of_parts(parts94(w, application, comparison, s, t), 0)

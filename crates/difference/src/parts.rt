@@ -69,6 +69,6 @@ pub fn root_of_parts(p: SignedParts, r: u64) -> u64
         p.c,
         signed::divided(signed::product(p.h, rotation), sine::ONE),
     );
-    let sum = signed::natural(sum_of_squares(p.l, p.c, p.h));
+    let sum = Int::from(sum_of_squares(p.l, p.c, p.h));
     isqrt::isqrt(signed::size(signed::sum(sum, turned)))
 }

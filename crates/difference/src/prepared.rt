@@ -1,40 +1,33 @@
-// A sample with what depends on it alone, and a point of the plane of a and b.
-ghost use Rattle.sample.specs.Inner.{lab_of, SampleIn};
-ghost use Rattle.difference.specs.Inner.{IsPrepared};
+// A sample with what depends on it alone.
+ghost use Rattle.std.specs.Prelude.{◌≡◌, ◌≤◌};
+ghost use Rattle.signed.specs.Inner.{int};
+ghost use Rattle.sample.specs.Inner.{lab_of};
+ghost use Rattle.chroma.specs.Chroma.{chroma_of};
 
+use hue::Opponents;
 use sample::Lab;
-use signed::Int;
 
 // A sample with its chroma and its quadrant, so that a search works them out once.
 #[derive(Clone, Copy)]
 pub struct Prepared {
     pub l: u64,
-    pub a: Int,
-    pub b: Int,
+    pub ab: Opponents,
     pub chroma: u64,
-    pub quadrant: u64,
+    pub ghost light: { l ≤ 1000000 },
+    pub ghost own: { chroma ≡ chroma_of (int ab.a) (int ab.b) },
 }
 
-// Works out what depends on the sample alone.
-pub fn prepare(s: Lab) -> Prepared
-    requires { SampleIn (lab_of s) }
-    ensures { IsPrepared (lab_of s) result }
-{
-    let a = s.a;
-    let b = s.b;
-    Prepared {
-        l: s.l,
-        a,
-        b,
-        chroma: chroma::chroma(a, b),
-        quadrant: hue::quadrant(a, b),
+impl Prepared {
+    ghost use Rattle.difference.specs.Inner.{prepared_sample};
+
+    // Works out what depends on the sample alone.
+    pub fn of(s: Lab) -> Self
+        ensures { prepared_sample result ≡ lab_of s }
+    {
+        Prepared {
+            l: s.l,
+            ab: Opponents::of(s.a, s.b),
+            chroma: chroma::chroma(s.a, s.b),
+        }
     }
-}
-
-// A point of the plane of a and b, in 10^-7.
-#[derive(Clone, Copy)]
-pub struct Coordinates {
-    pub a: Int,
-    pub b: Int,
-    pub chroma: u64,
 }

@@ -7,6 +7,9 @@ use lib.Ieee.Fits.{and_l, and_r, up_pos, down_pos}
 use lib.Ieee.Scale.{finite}
 use lib.Ieee.Positive.{num, den}
 use Rattle.signed.specs.Value.{with_sign}
+use Rattle.signed.specs.declared.Int.{Int}
+use Rattle.signed.specs.Inner.{int}
+use Rattle.signed.proofs.SignedLaws.{size_of}
 use Rattle.fixed_point.specs.Limits.{within, lightness_in, opponent_in, weight_in, tolerance_in}
 use Rattle.fixed_point.specs.Inner.{AtMost}
 use Rattle.fixed_point.specs.Rounding.{fixed_size, fixed_of}
@@ -241,6 +244,17 @@ sample_in r e =
       a = le_trans (le_of_eq (fixed-of-size r.a)) (fixed_size-le 128 r.a (opponent-size r.a k.a));
       b = le_trans (le_of_eq (fixed-of-size r.b)) (fixed_size-le 128 r.b (opponent-size r.b k.b));
     }
+
+-- what an accepted reading is rounded to is within a sample's bounds
+pub lab_within : (r : Reading) {l : ℕ} (a b : Int) → reading_refusal r ≡ 0 → l ≡ fixed_size r.l → int a ≡ fixed_of r.a → int b ≡ fixed_of r.b
+    → (l ≤ 1000000) × (a.n ≤ 1280000) × (b.n ≤ 1280000)
+unfolding sample_of
+lab_within r {l} a b e el ea eb =
+    let within = sample_in r e in (
+      subst (λ (n : ℕ). n ≤ 1000000) (sym el) within.l,
+      size_of a (subst (λ z. nat_abs z ≤ 1280000) (sym ea) within.a),
+      size_of b (subst (λ z. nat_abs z ≤ 1280000) (sym eb) within.b),
+    )
 
 pub weights_in : (w : Weights) → weights_refusal w ≡ 0 → WeightsIn (weights_of w)
 unfolding weights_of

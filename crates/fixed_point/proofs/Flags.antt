@@ -1,19 +1,11 @@
 -- The refusal numbers by the flags that decide them, in the order of the tests. Assumes nothing.
-use Rattle.std.proofs.Common.{◌≡◌, ℕ, Bool, true, false, cond, not, ◌&&◌, ◌||◌}
+use Rattle.std.proofs.Common.{◌≡◌, ℕ, Bool, cond, not, ◌||◌}
+use lib.Ieee.{Float}
 use lib.Ieee.Scale.{finite}
-use Rattle.fixed_point.specs.Limits.{lightness_in, opponent_in, weight_in}
-use Rattle.fixed_point.specs.Refusals.{reading_refusal, weights_refusal}
+use Rattle.fixed_point.specs.Limits.{lightness_in, opponent_in, weight_in, tolerance_in}
+use Rattle.fixed_point.specs.Refusals.{reading_refusal, weights_refusal, tolerance_refusal}
 use Rattle.fixed_point.specs.declared.Reading.{Reading}
 use Rattle.fixed_point.specs.declared.Weights.{Weights}
-
-pub outside-none : {p q : Bool} → p ≡ true → q ≡ true → false ≡ not (p && q)
-outside-none {p} {q} h k = cc
-
-pub outside_low : {p : Bool} (q : Bool) → p ≡ false → true ≡ not (p && q)
-outside_low {p} q h = cc
-
-pub outside_high : {p q : Bool} → p ≡ true → q ≡ false → true ≡ not (p && q)
-outside_high {p} {q} h k = cc
 
 -- L, a or b not finite; L outside; a, b outside
 abbrev pub reading_by : Bool → Bool → Bool → Bool → ℕ
@@ -32,3 +24,7 @@ pub weights-by : (w : Weights) {ol oc oh : Bool} → not (weight_in w.l) ≡ ol 
     (weight_in w.h) ≡ oh → weights_refusal w ≡ weights_by ol oc oh
 unfolding weights_refusal
 weights-by w p q t = λ i. weights_by (p i) (q i) (t i)
+
+pub tolerance-by : (t : Float) {o : Bool} → not (tolerance_in t) ≡ o → tolerance_refusal t ≡ cond o 5 0
+unfolding tolerance_refusal
+tolerance-by t p = λ i. cond (p i) 5 0

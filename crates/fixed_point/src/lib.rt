@@ -2,18 +2,20 @@
 // that each accepted float is rounded to.
 #![tactic(auto)]
 
-ghost use Rattle.std.specs.Prelude.{◌≡◌, ◌*◌, ◌<◌, false, not, ◌||◌};
+ghost use Rattle.std.specs.Prelude.{◌≡◌, ◌*◌, ◌≤◌, ◌<◌, false, not, ◌||◌, IfOk};
 ghost use Rattle.std.specs.Float.Ieee.Exact.{HasValue};
 ghost use Rattle.std.specs.Float.Ieee.Positive.{num, den};
 ghost use Rattle.std.specs.Float.Ieee.Scale.{finite};
+ghost use Rattle.refusal.specs.Refusals.{refused_with};
 ghost use Rattle.signed.specs.Inner.{int};
 ghost use Rattle.fixed_point.specs.Limits.{within};
 ghost use Rattle.fixed_point.specs.Inner.{AtMost};
 ghost use Rattle.fixed_point.specs.Rounding.{half_of, fixed_size, fixed_of};
 ghost use Rattle.fixed_point.specs.Refusals.{reading_refusal, weights_refusal, tolerance_refusal};
 ghost use Rattle.fixed_point.specs.Samples.{sample_of, weights_of};
-ghost use Rattle.sample.specs.Inner.{lab_of};
+ghost use Rattle.sample.specs.Inner.{lab_of, WeightsIn};
 
+use refusal::Refusal;
 use sample::{FixedWeights, Lab};
 use signed::Int;
 
@@ -33,87 +35,53 @@ pub struct Weights {
     pub h: f32,
 }
 
-// Whether x is infinite or a NaN: only a finite number lies between the infinities.
-fn not_finite(x: f32) -> bool
-    ensures { result ≡ not (finite x) }
-{
-    let infinity = 1.0 / 0.0;
-    if -infinity < x {
-        if x < infinity {
-            return false;
-        }
-    }
-    true
-}
-
 // Whether x is outside the limits. A NaN is.
 fn outside(x: f32, low: f32, high: f32) -> bool
     ensures { result ≡ not (within low high x) }
 {
-    if low <= x {
-        if x <= high {
-            return false;
-        }
-    }
-    true
+    !(low <= x && x <= high)
 }
 
 // Whether L, a or b is infinite or a NaN.
 fn some_not_finite(r: Reading) -> bool
     ensures { result ≡ (not (finite r.l) || not (finite r.a) || not (finite r.b)) }
 {
-    if not_finite(r.l) {
-        return true;
-    }
-    if not_finite(r.a) {
-        return true;
-    }
-    not_finite(r.b)
+    !r.l.is_finite() | !r.a.is_finite() | !r.b.is_finite()
 }
 
-// Refusal 1, 2 or 3 of a reading, or 0.
-pub fn reading_refusal(r: Reading) -> u8
-    ensures { result ≡ reading_refusal r }
+// Refusal 1, 2 or 3 of a reading.
+fn check_reading(r: Reading) -> Result<(), Refusal>
+    ensures { refused_with result ≡ reading_refusal r }
 {
     if some_not_finite(r) {
-        return 1;
+        return Err(Refusal::NotFinite);
     }
     if outside(r.l, 0.0, 100.0) {
-        return 2;
+        return Err(Refusal::Lightness);
     }
     if outside(r.a, -128.0, 128.0) {
-        return 3;
+        return Err(Refusal::Opponent);
     }
     if outside(r.b, -128.0, 128.0) {
-        return 3;
+        return Err(Refusal::Opponent);
     }
-    0
+    Ok(())
 }
 
-// Refusal 4 of the weights, or 0.
-pub fn weights_refusal(w: Weights) -> u8
-    ensures { result ≡ weights_refusal w }
+// Refusal 4 of the weights.
+fn check_weights(w: Weights) -> Result<(), Refusal>
+    ensures { refused_with result ≡ weights_refusal w }
 {
     if outside(w.l, 0.5, 10.0) {
-        return 4;
+        return Err(Refusal::Weight);
     }
     if outside(w.c, 0.5, 10.0) {
-        return 4;
+        return Err(Refusal::Weight);
     }
     if outside(w.h, 0.5, 10.0) {
-        return 4;
+        return Err(Refusal::Weight);
     }
-    0
-}
-
-// Refusal 5 of a tolerance, or 0.
-pub fn tolerance_refusal(t: f32) -> u8
-    ensures { result ≡ tolerance_refusal t }
-{
-    if outside(t, 0.0, 100.0) {
-        return 5;
-    }
-    0
+    Ok(())
 }
 
 // What a half goes to, its whole part being q.
@@ -166,7 +134,7 @@ fn fixed(x: f32) -> Int
 }
 
 // The sample that an accepted reading is rounded to.
-pub fn fixed_reading(r: Reading) -> Lab
+fn fixed_reading(r: Reading) -> Lab
     requires { reading_refusal r ≡ 0 }
     ensures { lab_of result ≡ sample_of r }
 {
@@ -178,7 +146,7 @@ pub fn fixed_reading(r: Reading) -> Lab
 }
 
 // Accepted weights, rounded.
-pub fn fixed_weights(w: Weights) -> FixedWeights
+fn fixed_weights(w: Weights) -> FixedWeights
     requires { weights_refusal w ≡ 0 }
     ensures { result ≡ weights_of w }
 {
@@ -189,10 +157,37 @@ pub fn fixed_weights(w: Weights) -> FixedWeights
     }
 }
 
-// An accepted tolerance, rounded.
-pub fn fixed_tolerance(t: f32) -> u64
-    requires { tolerance_refusal t ≡ 0 }
-    ensures { result ≡ fixed_size t }
+impl Reading {
+    // The sample that the reading is rounded to.
+    pub fn rounded(self) -> Result<Lab, Refusal>
+        ensures refusal { refused_with result ≡ reading_refusal self }
+        ensures sample { IfOk result (λ s. lab_of s ≡ sample_of self) }
+    {
+        check_reading(self)?;
+        Ok(fixed_reading(self))
+    }
+}
+
+impl Weights {
+    // The weights, rounded.
+    pub fn rounded(self) -> Result<FixedWeights, Refusal>
+        ensures refusal { refused_with result ≡ weights_refusal self }
+        ensures weights { IfOk result (λ w. w ≡ weights_of self) }
+        ensures within { IfOk result WeightsIn }
+    {
+        check_weights(self)?;
+        Ok(fixed_weights(self))
+    }
+}
+
+// A tolerance, rounded.
+pub fn rounded_tolerance(t: f32) -> Result<u64, Refusal>
+    ensures refusal { refused_with result ≡ tolerance_refusal t }
+    ensures tolerance { IfOk result (λ n. n ≡ fixed_size t) }
+    ensures within { IfOk result (λ n. n ≤ 1000000) }
 {
-    fixed_size(t)
+    if outside(t, 0.0, 100.0) {
+        return Err(Refusal::Tolerance);
+    }
+    Ok(fixed_size(t))
 }

@@ -1,2 +1,1 @@
 pub mod Gaussian
-pub mod Inner

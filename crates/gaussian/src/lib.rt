@@ -3,108 +3,13 @@
 #![tactic(auto)]
 
 ghost use Rattle.std.specs.Prelude.{◌≡◌, ◌-◌, ◌*◌, ◌/◌, ◌≤◌, ◌<◌};
-ghost use Rattle.gaussian.specs.Inner.{GaussianTable, IsPart};
-ghost use Rattle.gaussian.specs.Gaussian.{gaussian_of};
+ghost use Rattle.gaussian.specs.Gaussian.{gaussian_entry, gaussian_of};
 
 // The distance from which on the Gaussian is 0, 120 degrees.
 const END: u64 = 120000000;
 
-// The table. A lookup in a constant stores the whole of it each time, so a caller copies it once and lends it.
-pub fn gaussian_table() -> [u32; 1201]
-    ensures { GaussianTable result }
-{
-    ENTRIES
-}
-
-// What stands between two entries, `rest` past the first.
-fn between(here: u32, next: u32, rest: u64) -> u64
-    requires entry_bounds { (next ≤ here) × (here ≤ 1000000000) }
-    requires rest_bound { rest < 100000 }
-    ensures { result ≡ here - (here - next) * rest / 100000 }
-{
-    let fall = (here - next) as u64;
-    (here as u64) - fall * rest / 100000
-}
-
-// The Gaussian, in 10^-9, at a distance in 10^-6 degree.
-pub fn gaussian(t: &[u32; 1201], distance: u64) -> u64
-    requires { GaussianTable t.now }
-    ensures { result ≡ gaussian_of distance }
-{
-    if distance >= END {
-        return 0;
-    }
-    let j = (distance / 100000) as usize;
-    between(t[j], t[j + 1], distance % 100000)
-}
-
-// ---- without a table that was lent
-
-// The 51 entries from `first` on.
-fn part(t: &[u32; 1201], first: usize) -> [u32; 51]
-    requires gaussian_table { GaussianTable t.now }
-    requires first_bound { first ≤ 1150 }
-    ensures { IsPart first result }
-{
-    let mut p = [0u32; 51];
-    let mut k = 0;
-    while k < 51 {
-        p[k] = t[first + k];
-        k += 1;
-    }
-    p
-}
-
-// The ith part, of five degrees and the entry after them. Each arm names entries of the constant, so
-// that compiled only the part's own are copied.
-fn part_at(i: u64) -> [u32; 51]
-    requires { i < 24 }
-    ensures { IsPart (50 * i) result }
-{
-    let t = gaussian_table();
-    match i {
-        0 => part(&t, 0),
-        1 => part(&t, 50),
-        2 => part(&t, 100),
-        3 => part(&t, 150),
-        4 => part(&t, 200),
-        5 => part(&t, 250),
-        6 => part(&t, 300),
-        7 => part(&t, 350),
-        8 => part(&t, 400),
-        9 => part(&t, 450),
-        10 => part(&t, 500),
-        11 => part(&t, 550),
-        12 => part(&t, 600),
-        13 => part(&t, 650),
-        14 => part(&t, 700),
-        15 => part(&t, 750),
-        16 => part(&t, 800),
-        17 => part(&t, 850),
-        18 => part(&t, 900),
-        19 => part(&t, 950),
-        20 => part(&t, 1000),
-        21 => part(&t, 1050),
-        22 => part(&t, 1100),
-        _ => part(&t, 1150),
-    }
-}
-
-// The Gaussian of one pair: a part of the table is copied, where all of it would be for one that is lent.
-pub fn gaussian_once(distance: u64) -> u64
-    ensures { result ≡ gaussian_of distance }
-{
-    if END <= distance {
-        return 0;
-    }
-    let j = distance / 100000;
-    let p = part_at(j / 50);
-    let k = (j % 50) as usize;
-    between(p[k], p[k + 1], distance % 100000)
-}
-
 // The entries, in 10^-9, from 0 degrees to 120.
-const ENTRIES: [u32; 1201] = [
+static ENTRIES: [u32; 1201] = [
     1000000000, 999984000, 999936002, 999856010, 999744033, 999600080, 999424166, 999216307,
     998976524, 998704839, 998401279, 998065873, 997698652, 997299653, 996868912, 996406472,
     995912377, 995386674, 994829414, 994240649, 993620436, 992968835, 992285908, 991571719,
@@ -215,3 +120,31 @@ const ENTRIES: [u32; 1201] = [
     0, 0, 0, 0, 0, 0, 0, 0, 0, 0, 0, 0, 0, 0, 0, 0, 0, 0, 0, 0, 0, 0, 0, 0, 0, 0, 0, 0, 0, 0, 0, 0,
     0, 0, 0, 0, 0, 0,
 ];
+
+// The Gaussian at j tenths of a degree.
+fn entry(j: usize) -> u64
+    requires { j < 1201 }
+    ensures { result ≡ gaussian_entry j }
+{
+    ENTRIES[j] as u64
+}
+
+// What stands between two entries, `rest` past the first.
+fn between(here: u64, next: u64, rest: u64) -> u64
+    requires entry_bounds { (next ≤ here) × (here ≤ 1000000000) }
+    requires rest_bound { rest < 100000 }
+    ensures { result ≡ here - (here - next) * rest / 100000 }
+{
+    here - (here - next) * rest / 100000
+}
+
+// The Gaussian, in 10^-9, at a distance in 10^-6 degree.
+pub fn gaussian(distance: u64) -> u64
+    ensures { result ≡ gaussian_of distance }
+{
+    if distance >= END {
+        return 0;
+    }
+    let j = (distance / 100000) as usize;
+    between(entry(j), entry(j + 1), distance % 100000)
+}

@@ -4,3 +4,4 @@ pub mod QuadrantSigns
 mod Quadrants
 mod Halving
 mod Examples
+pub mod Numbers

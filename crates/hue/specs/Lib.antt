@@ -1,1 +1,2 @@
 pub mod Hue
+pub mod Inner

@@ -7,6 +7,8 @@ ghost use Rattle.std.specs.Prelude.{◌≡◌, ◌+◌, ◌*◌, ◌^◌, ◌≤
 ghost use Rattle.isqrt.specs.Root.{root_of};
 ghost use Rattle.isqrt.specs.Inner.{RootBits};
 
+use fraction::times;
+
 // How many bits the root of n has: half as many as n, rounded up, and at least 1. For a number of at
 // most 2k bits that is k + 1 at most.
 fn root_bits(n: u64) -> u32
@@ -52,20 +54,12 @@ fn on_part(part: u64) -> Parabola
     }
 }
 
-// x × t, with t in 1/65,536.
-fn times(x: u64, t: u64) -> u64
-    requires { (x < 2 ^ 20) × (t < 65536) }
-    ensures { result ≤ x }
-{
-    x * t / 65536
-}
-
 // Near the root of n, for n from 2^62 on. The highest 5 bits of n are its part, and the next 16 are t.
 // The parabola is 4 × 10^-6 off at most, and a step of Newton's method from there 8 × 10^-12.
 fn top_estimate(n: u64) -> u64 {
-    let p = on_part(n >> 59);
+    let Parabola(start, rise, bend) = on_part(n >> 59);
     let t = (n >> 43) % 65536;
-    let x = 256 * (p.0 + times(p.1 - times(p.2, t), t));
+    let x = 256 * (start + times(rise - times(bend, t), t));
     (x + n / x) / 2
 }
 
@@ -84,28 +78,17 @@ fn is_root(n: u64, r: u64) -> bool
     ensures { result ≡ eqb r (root_of n) }
 {
     // no root has more than 32 bits, and a larger square would not fit 64
-    if r > 4294967295 {
-        return false;
-    }
-    if r * r > n {
-        return false;
-    }
-    if n - r * r <= 2 * r {
-        return true;
-    }
-    false
+    r <= 4294967295 && r * r <= n && n - r * r <= 2 * r
 }
 
 // The root, its bits from the highest down: a bit is in it where the square does not pass n with it.
-// `left`, which falls by one in each round, starts at k + 1 at most for a number of at most 2k bits.
+// There are k + 1 rounds at most for a number of at most 2k bits.
 fn by_bits(n: u64, bits: u32) -> u64
     requires { RootBits n bits }
     ensures { result ≡ root_of n }
 {
     let mut root = 0u64;
-    let mut left = bits;
-    while left > 0 {
-        left -= 1;
+    for left in (0..bits).rev() {
         let tried = root + (1u64 << left);
         if tried * tried <= n {
             root = tried;

@@ -2,12 +2,10 @@
 // for each swatch in the order of the deck, `CODE L a b`, or `refused N`.
 #![tactic(auto)]
 
-ghost use Rattle.std.specs.Prelude.{◌≡◌, ◌≤◌, length};
+ghost use Rattle.std.specs.Prelude.{◌≡◌, length};
 
-use deck_file::Transfer;
 use std::io;
 use std::io::Read;
-use swatch_text::Line;
 use swatches::Swatch;
 
 // Six times the longest text that can be accepted.
@@ -20,39 +18,16 @@ fn text_buffer() -> [u8; TEXT_MOST]
     [0u8; TEXT_MOST]
 }
 
-// Reads until the buffer is full or the input ends: how many bytes it read. A read that fails counts
-// as the end.
-fn read_full<R: Read>(input: &mut R, buffer: &mut [u8]) -> usize
-    ensures { result ≤ length buffer.new }
-{
-    let mut done = 0;
-    while done < buffer.len() {
-        match input.read(&mut buffer[done..]) {
-            Ok(0) => return done,
-            Ok(n) => done += n,
-            Err(_) => return done,
-        }
-    }
-    done
-}
-
 // Whether the input goes on.
 fn goes_on<R: Read>(input: &mut R) -> bool {
     let mut more = [0u8; 1];
-    0 < read_full(input, &mut more)
-}
-
-// Writes a line.
-fn write_line(rt: &impl Print, line: Line) -> io::Result<()> {
-    let text = line.text;
-    let n = line.len.min(text.len());
-    rt.write_all(&text[..n])
+    0 < input::read_full(input, &mut more)
 }
 
 // Writes the first n swatches of a list, until one cannot be written.
-fn write_list(rt: &impl Print, list: [Swatch; deck::MOST_SWATCHES], n: usize) -> io::Result<()> {
+fn write_list(rt: &impl Print, list: &[Swatch], n: usize) -> io::Result<()> {
     for s in list.iter().take(n) {
-        write_line(rt, swatch_text::swatch_line(*s))?;
+        rt.write_all(swatch_text::swatch_line(*s).as_bytes())?;
     }
     Ok(())
 }
@@ -60,11 +35,9 @@ fn write_list(rt: &impl Print, list: [Swatch; deck::MOST_SWATCHES], n: usize) ->
 // Imports a text and writes what it lists.
 fn list_text(rt: &impl Print, text: &[u8]) -> io::Result<()> {
     let imported = records::import_list(text);
-    let list = imported.records;
-    let answer = imported.answer;
-    match answer {
-        Transfer::Done(n) => write_list(rt, list, n),
-        Transfer::Refused(k) => write_line(rt, swatch_text::refused_line(k)),
+    match imported.answer {
+        Ok(n) => write_list(rt, &imported.records, n),
+        Err(refusal) => rt.write_all(swatch_text::refused_line(refusal.number()).as_bytes()),
     }
 }
 
@@ -73,7 +46,7 @@ fn list_text(rt: &impl Print, text: &[u8]) -> io::Result<()> {
 fn main(rt: HostRuntime) -> io::Result<()> {
     let mut input = rt.stdin();
     let mut text = text_buffer();
-    let n = read_full(&mut input, &mut text);
+    let n = input::read_full(&mut input, &mut text);
     if n == TEXT_MOST {
         if goes_on(&mut input) {
             return eprintln!(rt;

@@ -9,7 +9,7 @@ use Rattle.buffer.specs.Parts.{start_with, parts_of}
 use Rattle.decimal.specs.Reading.{run_on, run_of, fraction_run, fraction_of, whole_run, decimal_of}
 use Rattle.sorting.specs.Order.{put_in, stable_order}
 use Rattle.sample.specs.Sample.{colour_refusal, colour_sample}
-use Rattle.sample.specs.Refusals.{first_refusal}
+use Rattle.refusal.specs.Refusals.{first_refusal}
 use Rattle.swatches.specs.Swatches.{all, codes, by_lightness}
 use Rattle.lab_text.specs.Keywords.{begin_data_format, end_data_format, number_of_sets, begin_data, end_data, sample_id, lab_l, lab_a, lab_b}
 use Rattle.lab_text.specs.Fields.{is_number, is_code, is_value, value_in, place_of, order_of, is_names, is_sets, sets_in, is_row, row_in}

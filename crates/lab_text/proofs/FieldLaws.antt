@@ -1,132 +1,137 @@
 -- Words, and words that are numbers, from what was read of them. Assumes nothing.
 use mathlib.Core.Path.{◌≡◌, refl, sym, ap, subst, ◌∙◌}
-use mathlib.Core.Bool.{Bool, true, false, ◌&&◌, cond, and-true, and-false, true≢false}
-use mathlib.Core.List.{List, []}
-use Prim.Native.Nat.{ℕ, suc, ◌+◌, ◌^◌, ◌≤◌, ◌<◌}
+use mathlib.Core.Bool.{Bool, true, false, ◌&&◌, cond}
+use mathlib.Core.List.{List, [], ◌∷◌}
+use Prim.Native.Nat.{ℕ, suc, ◌+◌, ◌≤◌, ◌<◌}
 use native.Mathlib.Nat.{add-zero, lt_trans}
 use native.Mathlib.Numerals.{add-one}
+use native.Mathlib.Decide.{dec_lt}
 use native.Mathlib.Omega.{arith}
-use lib.Dec.{leb, ltb, lit<}
-use lib.IntN.{ℤ, pos}
-use lib.ListN.{length, drop, drop_of_length-le}
+use lib.Dec.{eqb, leb, ltb}
+use lib.ListN.{length, get_or, get_or-map, drop, drop_of_length-le}
 use lib.Seq.{drop-cons}
+use borrow.Author.Tests.{le-leb, lt-leb, lt-ltb, ne_eqb}
+use lib.Dec.{lit<}
+use lib.IntN.{ℤ}
 use mir.Syntax.{w32}
-use mir.Val.{SFits, of_z, to_z, hbits}
+use mir.Val.{SFits, of_z, to_z}
 use mir.Facts.{to_z-of_z}
-use borrow.Author.Tests.{leb-true, leb-false, le-leb, lt-leb}
+use Rattle.signed.specs.Inner.{int}
+use Rattle.signed.specs.declared.Int.{Int}
+use Rattle.signed.proofs.Border.{int-fits}
+use Rattle.std.specs.Prelude.{Option, None, Result, Ok, Err}
+use Rattle.std.specs.Result.{OkIff, result_ok}
+use Rattle.std.specs.Borrow.{Bor}
 use Rattle.buffer.specs.Numbers.{same}
 use Rattle.buffer.specs.Inner.{parts_from, first_part}
 use Rattle.buffer.proofs.PartsLaws.{from_start, next-from, part-from, parts-number}
-use Rattle.signed.specs.Inner.{int}
-use Rattle.signed.specs.declared.Int.{Int}
-use Rattle.decimal.specs.Reading.{Found, found, missing, Run, run_of, decimal_of}
-use Rattle.decimal.specs.Inner.{decimal_found, decimal_within, DigitsRead, DecimalRead}
+use Rattle.decimal.specs.Reading.{Run, run_of}
+use Rattle.decimal.specs.Inner.{run_in}
 use Rattle.decimal.specs.declared.Digits.{Digits}
-use Rattle.decimal.specs.declared.Decimal.{Decimal}
-use Rattle.decimal.specs.declared.Decimal.TheVariants.{Value, Missing}
-use Rattle.decimal.proofs.ReadingLaws.{digits-below}
-use Rattle.lab_text.specs.Fields.{words_of, word_at, is_empty, is_number, number_in, is_code, is_whole, found_value}
-use Rattle.lab_text.specs.Fields.{is_value, value_in, place_of}
-use Rattle.lab_text.specs.Inner.{NumberRead, CodeRead, ValueRead, IsWords}
-use Rattle.lab_text.specs.declared.fields.Number.{Number}
+use Rattle.lab_text.specs.Fields.{words_of, word_at, is_empty, is_number, number_in, is_code, place_of}
+use Rattle.lab_text.specs.Inner.{texts, IsRead}
+
+-- nothing is read where a test was not passed
+pub none_read : {A : Type 0} {p : Bool} (x : A) {r : Option A} → r ≡ None → p ≡ false → IsRead p x r
+none_read {p = p} x e h = subst (IsRead p x) (sym e) h
+
+-- one test more was passed, or was not
+pub passed : {p q r : Bool} → p ≡ true → q ≡ r → (p && q) ≡ r
+passed e f = rw (e, f)
+
+pub failed : {p : Bool} (q : Bool) → p ≡ false → (p && q) ≡ false
+failed q e = rw e
+
+pub empty-length : (s : List ℕ) → is_empty s ≡ eqb (length s) 0
+empty-length [] = refl
+empty-length (x ∷ xs) = sym (ne_eqb (suc (length xs)) 0 (λ e. omega arith))
 
 -- ---- a word that is a number
 
--- nothing is left from a place on
-pub empty-from : (s : List ℕ) (at : ℕ) → leb (length s) at ≡ is_empty (drop at s)
-empty-from s at = by (leb (length s) at) refl where
-  by : (t : Bool) → leb (length s) at ≡ t → t ≡ is_empty (drop at s)
-  by true e = sym (ap is_empty (drop_of_length-le s (leb-true (length s) at e)))
-  by false e = sym (ap is_empty (drop-cons s at 0 (leb-false (length s) at e)))
-
-pub number_read : (most : ℕ) (s : List ℕ) (r : Digits) → DigitsRead s most (run_of most s) r
-    → NumberRead most s (record { right = ltb 0 r.count && leb (length s) r.at; value = r.value })
+pub number-none : (most : ℕ) (s : List ℕ) → (run_of most s).count ≡ 0 → is_number most s ≡ false
 unfolding is_number
-number_read most s r h =
-    record {
-      right =
-          ap (λ t. ltb 0 r.count && t) (empty-from s r.at)
-          ∙ ap (λ (x : Run). ltb 0 x.count && is_empty x.rest) h.is;
-      is = ap (λ (x : Run). x.value) h.is;
-      small = digits-below most h.small h.few;
-    }
+number-none most s e = rw e
 
-module _ (s : List ℕ) (r : Number) (h : NumberRead 10 s r) where
-  -- at most the greatest SAMPLE_ID
-  pub code_read : r.value ≤ 4294967295 → CodeRead s (record { right = r.right; code = r.value })
+pub number-is : (most : ℕ) (s : List ℕ) (d : Digits) → run_in d ≡ run_of most s → 0 < d.count
+    → is_number most s ≡ is_empty d.rest.now
+unfolding is_number
+number-is most s d e h = ap (λ (x : Run). ltb 0 x.count && is_empty x.rest) (sym e) ∙ rw (lt-ltb _ _ h)
+
+-- a SAMPLE_ID is a number that is small enough
+module _ (s : List ℕ) where
+  pub code-none : is_number 10 s ≡ false → is_code s ≡ false
   unfolding is_code
-  code_read small =
-      let few = le-leb (number_in 10 s) 4294967295 (omega (arith, h.is)) in
-      record {
-        right = h.right ∙ sym (ap (λ t. is_number 10 s && t) few ∙ and-true (is_number 10 s));
-        is = λ _. h.is;
-      }
+  code-none e = rw e
 
-  pub code-over : 4294967295 < r.value → CodeRead s (record { right = false; code = 0 })
-  unfolding is_code
-  code-over big =
-      let many = lt-leb (number_in 10 s) 4294967295 (omega (arith, h.is)) in
-      record {
-        right = sym (ap (λ t. is_number 10 s && t) many ∙ and-false (is_number 10 s));
-        is = λ e. absurd (true≢false (sym e));
-      }
+  module _ (e : is_number 10 s ≡ true) where
+    pub code-small : number_in 10 s < 4294967296 → is_code s ≡ true
+    unfolding is_code
+    code-small h = rw (e, le-leb (number_in 10 s) 4294967295 (omega arith))
 
--- a decimal v was found, which ends at a place, and was stored as z
-pub value_read : (s : List ℕ) {d : Decimal} {v : Int} {at : ℕ} {z : ℤ} → DecimalRead s (decimal_of s) d → d ≡ Value v at
-    → SFits w32 (int v) → z ≡ int v → ValueRead s (record { right = leb (length s) at; value = to_z w32 (of_z w32 z) })
-unfolding is_value value_in
-value_read s {v = v} {at = at} {z = z} h e fits f =
-    let found-is : found (int v) (drop at s) ≡ decimal_of s = ap (decimal_found s) (sym e) ∙ h.is in
-    let stored : to_z w32 (of_z w32 z) ≡ int v = ap (λ y. to_z w32 (of_z w32 y)) f ∙ to_z-of_z fits in
-    record {
-      right = empty-from s at ∙ ap is_whole found-is;
-      is = stored ∙ ap found_value found-is;
-      fits = subst (SFits w32) (sym stored) fits;
-    }
+    pub code-big : 4294967296 ≤ number_in 10 s → is_code s ≡ false
+    unfolding is_code
+    code-big h = rw (e, lt-leb (number_in 10 s) 4294967295 (omega arith))
 
--- and fits
-pub value-fits : (s : List ℕ) {x : Found ℤ} {d : Decimal} {v : Int} {at : ℕ} → DecimalRead s x d → d ≡ Value v at
-    → v.n < 2 ^ hbits w32
-value-fits s h e = lt_trans (subst (decimal_within (length s)) e h.within).0 (lit< tt)
+    pub code_read : {E : Type 0} {n : ℕ} (r : Result ℕ E) {q : Option ℕ} → OkIff r (n < 4294967296) n → q ≡ result_ok r
+        → n ≡ number_in 10 s → IsRead (is_code s) (number_in 10 s) q
+    code_read (Ok m) h f g =
+        let small : number_in 10 s < 4294967296 = subst (λ k. k < 4294967296) g h.0 in
+        subst (IsRead (is_code s) (number_in 10 s)) (sym f) (code-small small, h.1 ∙ g)
+    code_read {n = n} (Err x) h f g = none_read _ f (code-big (by_size (dec_lt n 4294967296)))
+      where
+        by_size : Dec (n < 4294967296) → 4294967296 ≤ number_in 10 s
+        by_size (yes l) = absurd (h l)
+        by_size (no l) = omega arith
 
-pub value-missing : (s : List ℕ) {d : Decimal} → DecimalRead s (decimal_of s) d → d ≡ Missing
-    → ValueRead s (record { right = false; value = pos 0 })
-unfolding is_value value_in
-value-missing s h e =
-    let none : missing ≡ decimal_of s = ap (decimal_found s) (sym e) ∙ h.is in
-    record { right = ap is_whole none; is = ap found_value none; fits = record { sfits = lit< tt } }
+-- a decimal fits, and is what is read back of it
+pub value-fits : (v : Int) → v.n < 10000000 → SFits w32 (int v)
+value-fits v h = int-fits w32 v (lt_trans h (lit< tt))
+
+pub value_stored : {x z : ℤ} → SFits w32 x → z ≡ x → to_z w32 (of_z w32 z) ≡ x
+value_stored fits e = ap (λ y. to_z w32 (of_z w32 y)) e ∙ to_z-of_z fits
 
 -- ---- the words of a line
+
+-- the word at a place of a list of words
+pub word-at : (ws : List (Bor (List ℕ))) {vs : List (List ℕ)} → texts ws ≡ vs → (k : ℕ)
+    → (get_or ws k (record { ref_ptr = (0, 0); now = [] })).now ≡ word_at vs k
+word-at ws e k =
+    sym (get_or-map (λ (w : Bor (List ℕ)). w.now) ws k (record { ref_ptr = (0, 0); now = [] })) ∙ ap (λ vs. word_at vs k) e
+
+-- four words
+four_words : (ws : List (List ℕ)) → length ws ≡ 4 → {a b c d : List ℕ} → a ≡ word_at ws 0 → b ≡ word_at ws 1 → c ≡ word_at ws 2
+    → d ≡ word_at ws 3 → (a ∷ b ∷ c ∷ d ∷ []) ≡ ws
+four_words (a ∷ (b ∷ (c ∷ (d ∷ [])))) h e f g i = rw (e, f, g, i)
+four_words [] h e f g i = absurd (omega arith)
+four_words (a ∷ []) h e f g i = absurd (omega arith)
+four_words (a ∷ (b ∷ [])) h e f g i = absurd (omega arith)
+four_words (a ∷ (b ∷ (c ∷ []))) h e f g i = absurd (omega arith)
+four_words (a ∷ (b ∷ (c ∷ (d ∷ (x ∷ xs))))) h e f g i = absurd (omega arith)
 
 module _ (line : List ℕ) (second third fourth fifth : ℕ)
     (e : parts_from 32 line second ≡ drop 1 (parts_from 32 line 0))
     (f : parts_from 32 line third ≡ drop 1 (parts_from 32 line second))
     (g : parts_from 32 line fourth ≡ drop 1 (parts_from 32 line third))
     (h : parts_from 32 line fifth ≡ drop 1 (parts_from 32 line fourth)) where
-  pub words-read :
-      IsWords line
-      (record {
-        four = leb fourth (length line) && ltb (length line) fifth;
-        second = second;
-        third = third;
-        fourth = fourth;
-      })
-  words-read =
-      let ws = words_of line in
-      let s = next-from 32 line ws 0 _ _ (from_start 32 line) e in
-      let t = next-from 32 line ws 1 _ _ s f in
-      let u = next-from 32 line ws 2 _ _ t g in
-      record {
-        four = parts-number 32 line ws 3 fourth fifth u (next-from 32 line ws 3 _ _ u h);
-        second = s;
-        third = t;
-        fourth = u;
-      }
+  at₁ : parts_from 32 line second ≡ drop 1 (words_of line)
+  at₁ = next-from 32 line (words_of line) 0 _ _ (from_start 32 line) e
 
--- the part t that starts at p is the word at k, which is j
-pub word-from : (line : List ℕ) (j p : ℕ) {k : ℕ} {t : List ℕ} → k ≡ j → parts_from 32 line p ≡ drop j (words_of line)
-    → t ≡ first_part (parts_from 32 line p) → t ≡ word_at (words_of line) k
-word-from line j p e f g = part-from 32 line (words_of line) j p f g ∙ ap (word_at (words_of line)) (sym e)
+  at₂ : parts_from 32 line third ≡ drop 2 (words_of line)
+  at₂ = next-from 32 line (words_of line) 1 _ _ at₁ f
+
+  at₃ : parts_from 32 line fourth ≡ drop 3 (words_of line)
+  at₃ = next-from 32 line (words_of line) 2 _ _ at₂ g
+
+  pub four-is : (leb fourth (length line) && ltb (length line) fifth) ≡ eqb (length (words_of line)) 4
+  four-is = parts-number 32 line (words_of line) 3 fourth fifth at₃ (next-from 32 line (words_of line) 3 _ _ at₃ h)
+
+  pub four_are : length (words_of line) ≡ 4 → {a b c d : List ℕ} → a ≡ first_part (parts_from 32 line 0)
+      → b ≡ first_part (parts_from 32 line second) → c ≡ first_part (parts_from 32 line third)
+      → d ≡ first_part (parts_from 32 line fourth) → (a ∷ b ∷ c ∷ d ∷ []) ≡ words_of line
+  four_are n i j k l =
+      four_words (words_of line) n (part-from 32 line (words_of line) 0 0 (from_start 32 line) i)
+      (part-from 32 line (words_of line) 1 _ at₁ j) (part-from 32 line (words_of line) 2 _ at₂ k)
+      (part-from 32 line (words_of line) 3 _ at₃ l)
 
 -- ---- where a word stands
 

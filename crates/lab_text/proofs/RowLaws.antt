@@ -1,16 +1,18 @@
 -- A row, from what was read of its words. Assumes nothing.
 use mathlib.Core.Path.{◌≡◌, refl, sym, ap, ap₂, ◌∙◌}
-use mathlib.Core.Bool.{Bool, true, false, ◌&&◌, cond, and-true, and_assoc, and-eq-true_iff}
+use mathlib.Core.Bool.{Bool, true, false, ◌&&◌, cond, and-true, and-false, true≢false, and_assoc}
 use mathlib.Core.Logic.{⊎_elim}
 use mathlib.Core.List.{List, [], ◌∷◌, ◌++◌, map, append-nil}
 use Prim.Native.Nat.{ℕ, suc, ◌+◌, ◌≤◌, ◌<◌}
-use native.Mathlib.Nat.{add-zero, zero-add, eq-or-lt_of_le}
+use native.Mathlib.Nat.{add-zero, eq-or-lt_of_le}
 use native.Mathlib.Numerals.{add-one}
 use native.Mathlib.Omega.{arith}
 use lib.Dec.{leb, eqb}
+use lib.IntN.{ℤ}
+use Rattle.std.specs.Borrow.{Bor}
 use lib.ListN.{length, get_or, take, drop, set, drop_of_length-le}
 use lib.Seq.{take-suc-set, append_snoc, drop-cons}
-use borrow.Author.Tests.{eqb-true, eqb-false, leb-true, leb-false}
+use borrow.Author.Tests.{eq-eqb, eqb-true, eqb-false, leb-true, leb-false}
 use Rattle.buffer.specs.Numbers.{same}
 use Rattle.buffer.specs.Parts.{start_with, parts_of}
 use Rattle.buffer.specs.Inner.{parts_from}
@@ -18,46 +20,44 @@ use Rattle.buffer.proofs.PartsLaws.{from_in, from_out, never-none}
 use Rattle.deck.specs.Deck.{most_swatches}
 use Rattle.swatches.specs.Swatches.{all, is_within}
 use Rattle.lab_text.specs.Keywords.{end_data}
-use mir.Syntax.{w32}
-use mir.Val.{of_z, to_z}
-use mir.Facts.{to_z-of_z}
-use Rattle.lab_text.specs.Fields.{words_of, word_at, is_row, row_in}
+use Rattle.lab_text.specs.Fields.{words_of, word_at, number_in, is_code, is_value, value_in, is_row, row_in}
 use Rattle.lab_text.specs.Text.{is_end, ends, row_lines}
-use Rattle.lab_text.specs.Inner.{CodeRead, ValueRead, IsWords, RowRead, TableRead}
+use Rattle.lab_text.specs.Inner.{texts, TableRead}
+use Rattle.lab_text.proofs.FieldLaws.{word-at}
 use Rattle.swatches.specs.declared.Swatch.{Swatch}
-use Rattle.lab_text.specs.declared.rows.Row.{Row}
-use Rattle.lab_text.specs.declared.fields.Code.{Code}
-use Rattle.lab_text.specs.declared.fields.Value.{Value}
-use Rattle.lab_text.specs.declared.fields.Words.{Words}
 use Rattle.lab_text.specs.declared.head.Order.{Order}
 
-pub row_read : (o : Order) (line : List ℕ) {w : Words} {code : Code} {l a b : Value} → IsWords line w
-    → CodeRead (word_at (words_of line) o.code) code → ValueRead (word_at (words_of line) o.l) l
-    → ValueRead (word_at (words_of line) o.a) a → ValueRead (word_at (words_of line) o.b) b
-    → RowRead o line
-    (record {
-      right = w.four && (code.right && (l.right && (a.right && b.right)));
-      swatch =
-          record {
-            code = code.code;
-            l = to_z w32 (of_z w32 l.value);
-            a = to_z w32 (of_z w32 a.value);
-            b = to_z w32 (of_z w32 b.value);
-          };
-    })
-unfolding is_row row_in
-row_read o line {w = w} {code = r} h code l a b =
-    record {
-      right = ap₂ ◌&&◌ h.four (ap₂ ◌&&◌ code.right (ap₂ ◌&&◌ l.right (ap₂ ◌&&◌ a.right b.right)));
-      is =
-          λ t. let c = code.is ((and-eq-true_iff r.right _).0 ((and-eq-true_iff w.four _).0 t).1).0 in
-          λ i. record {
-            code = c i;
-            l = (to_z-of_z l.fits ∙ l.is) i;
-            a = (to_z-of_z a.fits ∙ a.is) i;
-            b = (to_z-of_z b.fits ∙ b.is) i;
-          };
-    }
+pub row-other : (o : Order) (line : List ℕ) → eqb (length (words_of line)) 4 ≡ false → is_row o line ≡ false
+unfolding is_row
+row-other o line e = rw e
+
+module _ (o : Order) (line : List ℕ) (ws : List (Bor (List ℕ)))
+    (h : (length (words_of line) ≡ 4) × (texts ws ≡ words_of line)) where
+  abbrev word : ℕ → List ℕ
+  word k = (get_or ws k (record { ref_ptr = (0, 0); now = [] })).now
+
+  at-words : (k : ℕ) → word_at (words_of line) k ≡ word k
+  at-words k = sym (word-at ws h.1 k)
+
+  pub row-is : is_row o line ≡
+      (is_code (word o.code) && (is_value (word o.l) && (is_value (word o.a) && is_value (word o.b))))
+  unfolding is_row
+  row-is =
+      ap₂ ◌&&◌ (eq-eqb _ _ h.0)
+      (ap₂ ◌&&◌ (ap is_code (at-words o.code))
+      (ap₂ ◌&&◌ (ap is_value (at-words o.l)) (ap₂ ◌&&◌ (ap is_value (at-words o.a)) (ap is_value (at-words o.b)))))
+
+  pub row_read : {code : ℕ} {l a b : ℤ} → code ≡ number_in 10 (word o.code) → l ≡ value_in (word o.l) → a ≡ value_in (word o.a)
+      → b ≡ value_in (word o.b)
+      → record { code = code; l = l; a = a; b = b } ≡ row_in o line
+  unfolding row_in
+  row_read e f g i =
+      λ j. record {
+        code = (e ∙ ap (number_in 10) (sym (at-words o.code))) j;
+        l = (f ∙ ap value_in (sym (at-words o.l))) j;
+        a = (g ∙ ap value_in (sym (at-words o.a))) j;
+        b = (i ∙ ap value_in (sym (at-words o.b))) j;
+      }
 
 -- ---- the end of the text
 
@@ -106,10 +106,6 @@ pub record SoFar (o : Order) (body rest : List (List ℕ)) (swatches : List Swat
       → take n swatches ++ map (row_in o) (row_lines rest) ≡ map (row_in o) (row_lines body)
 
 module _ (o : Order) (body : List (List ℕ)) where
-  pub so-far-none : (swatches : List Swatch) → SoFar o body body swatches true true 0
-  so-far-none swatches =
-      record { ended = refl; right = refl; count = zero-add _; within = λ _. refl; is = λ _ _. refl }
-
   module _ {rest : List (List ℕ)} {swatches : List Swatch} {r w : Bool} {n : ℕ} (h : SoFar o body rest swatches r w n) where
     -- no row is left
     pub so-far-all : {t : Bool} → length swatches ≡ most_swatches → row_lines rest ≡ [] → t ≡ ends rest
@@ -143,30 +139,41 @@ module _ (o : Order) (body : List (List ℕ)) where
         unfolding ends
         ends_on = sym (ap ends e ∙ ap (λ b. cond b (is_end more) (ends more)) (sym f ∙ g))
 
-        pub so_far_more : {row : Row} {v : Bool} {swatches' : List Swatch} → RowRead o line row → v ≡ is_within row.swatch
-            → length swatches ≡ most_swatches → (n < most_swatches → swatches' ≡ set swatches n row.swatch)
-            → SoFar o body more swatches' (r && row.right) (w && v) (n + 1)
+        pub so_far_more : {swatch : Swatch} {v : Bool} {swatches' : List Swatch} → (is_row o line ≡ true) × (swatch ≡ row_in o line)
+            → v ≡ is_within swatch → length swatches ≡ most_swatches → (n < most_swatches → swatches' ≡ set swatches n swatch)
+            → SoFar o body more swatches' r (w && v) (n + 1)
         unfolding all
-        so_far_more {row} {v} {swatches'} read inside size stored =
+        so_far_more {swatch} {v} {swatches'} read inside size stored =
             let A = all (is_row o) (row_lines more) in
             let M = map (row_in o) (row_lines more) in
-            let both : (r && row.right) ≡ true → (r ≡ true) × (row.right ≡ true) = (and-eq-true_iff r row.right).0 in
-            let known : (r && row.right) ≡ true → row.swatch ≡ row_in o line = λ q. read.is (both q).1 in
             record {
               ended = ends_on ∙ h.ended;
               right =
-                  and_assoc r row.right A ∙ ap (λ b. r && (b && A)) read.right
-                  ∙ ap (λ ls. r && all (is_row o) ls) (sym row_first) ∙ h.right;
+                  ap (λ b. r && (b && A)) (sym read.0) ∙ ap (λ ls. r && all (is_row o) ls) (sym row_first) ∙ h.right;
               count = omega (arith, ap length row_first, h.count);
               within =
                   λ q. and_assoc w v (all is_within M)
-                  ∙ ap (λ b. w && (b && all is_within M)) (inside ∙ ap is_within (known q))
-                  ∙ ap (λ ls. w && all is_within (map (row_in o) ls)) (sym row_first) ∙ h.within (both q).0;
+                  ∙ ap (λ b. w && (b && all is_within M)) (inside ∙ ap is_within read.1)
+                  ∙ ap (λ ls. w && all is_within (map (row_in o) ls)) (sym row_first) ∙ h.within q;
               is =
                   λ q l. let few : n < most_swatches = omega arith in
-                  let taken : take (n + 1) swatches' ≡ take n swatches ++ (row.swatch ∷ []) =
-                  ap₂ take (add-one n) (stored few) ∙ take-suc-set swatches n row.swatch (omega arith) in
-                  ap (λ xs. xs ++ M) taken ∙ append_snoc (take n swatches) row.swatch M
-                  ∙ ap (λ x. take n swatches ++ x ∷ M) (known q)
-                  ∙ ap (λ ls. take n swatches ++ map (row_in o) ls) (sym row_first) ∙ h.is (both q).0 (omega arith);
+                  let taken : take (n + 1) swatches' ≡ take n swatches ++ (swatch ∷ []) =
+                  ap₂ take (add-one n) (stored few) ∙ take-suc-set swatches n swatch (omega arith) in
+                  ap (λ xs. xs ++ M) taken ∙ append_snoc (take n swatches) swatch M
+                  ∙ ap (λ x. take n swatches ++ x ∷ M) read.1
+                  ∙ ap (λ ls. take n swatches ++ map (row_in o) ls) (sym row_first) ∙ h.is q (omega arith);
+            }
+
+        -- and a line that is no row
+        pub so_far_malformed : is_row o line ≡ false → SoFar o body more swatches false w (n + 1)
+        unfolding all
+        so_far_malformed e =
+            let A = all (is_row o) (row_lines more) in
+            record {
+              ended = ends_on ∙ h.ended;
+              right =
+                  sym (sym h.right ∙ ap (λ ls. r && all (is_row o) ls) row_first ∙ ap (λ b. r && (b && A)) e ∙ and-false r);
+              count = omega (arith, ap length row_first, h.count);
+              within = λ q. absurd (true≢false (sym q));
+              is = λ q. absurd (true≢false (sym q));
             }

@@ -6,7 +6,7 @@ use native.Mathlib.Omega.{arith}
 use lib.ListN.{length}
 use borrow.Author.Tests.{leb-true}
 use Rattle.sorting.proofs.OrderLaws.{order_is}
-use Rattle.sample.proofs.RefusalLaws.{none_of}
+use Rattle.refusal.proofs.RefusalLaws.{none_of}
 use Rattle.deck.specs.Deck.{deck_refusal}
 use Rattle.swatches.specs.Swatches.{lightness_at, deck_of}
 use Rattle.swatches.proofs.ValidLaws.{sorted-valid}

@@ -1,11 +1,10 @@
 -- What the reading of a text, and its import to lent columns, promise.
 use Rattle.std.specs.Prelude.{◌≡◌, Bool, ◌&&◌, List, [], ◌∷◌, ℕ, ◌≤◌, leb, ℤ, length, take, drop}
 use Rattle.sorting.specs.Order.{IsStableOrder}
-use Rattle.sample.specs.Refusals.{first_refusal}
+use Rattle.refusal.specs.Refusals.{first_refusal}
 use Rattle.deck.specs.Deck.{Deck, most_swatches, columns, deck_refusal}
 use Rattle.deck_file.specs.Refusals.{room_refusal}
-use Rattle.deck_file.specs.Transfers.{transfer_of, transfer_number, transfer_size, contents_of}
-use Rattle.deck_file.specs.declared.Transfer.{Transfer}
+use Rattle.deck_file.specs.Transfers.{Transfer, transfer_of, transfer_number, transfer_size, contents_of}
 use Rattle.swatches.specs.Swatches.{codes, lightnesses, green_reds, blue_yellows, lightness_at, lightness_order}
 use Rattle.swatches.specs.declared.Swatch.{Swatch}
 use Rattle.lab_text.specs.Text.{rows_of, text_refusal, swatches_of}
@@ -18,14 +17,11 @@ InDeckOrder text =
 
 -- ---- the deck of a text, in a list with room for any
 
--- the refusal, the first that applies of 14, 15, 16, 6 and 7; and the swatches where there is none. What the list holds past
--- them, or on a refusal, is left open
-pub record IsLabDeck (text : List ℕ) (r : LabDeck) : Type 0 where
-  pub refusal : r.refusal ≡ text_refusal text
-  pub is : text_refusal text ≡ 0 → take r.count r.swatches ≡ swatches_of text
-  pub none : (text_refusal text ≡ 0 → ⊥) → r.count ≡ 0
-  pub most : r.count ≤ most_swatches
-  pub size : length r.swatches ≡ most_swatches
+-- of a text that is not refused. What the list holds past the swatches is left open
+pub record IsLabDeck (text : List ℕ) (d : LabDeck) : Type 0 where
+  pub is : take d.count d.swatches ≡ swatches_of text
+  pub most : d.count ≤ most_swatches
+  pub size : length d.swatches ≡ most_swatches
 
 -- the first that applies to an import, where `fits n` says whether there is room for n swatches: 13 comes last
 unfoldable pub refusal_for : List ℕ → (ℕ → Bool) → ℕ

@@ -2,7 +2,7 @@
 use Rattle.std.specs.Prelude.{Bool, false, ◌&&◌, cond, List, [], ◌∷◌, map, ℕ, leb, eqb, length, get_or, drop}
 use Rattle.buffer.specs.Numbers.{same}
 use Rattle.buffer.specs.Parts.{parts_of}
-use Rattle.sample.specs.Refusals.{first_refusal}
+use Rattle.refusal.specs.Refusals.{first_refusal}
 use Rattle.deck.specs.Deck.{most_swatches}
 use Rattle.lab_text.specs.Keywords.{begin_data_format, end_data_format, begin_data, end_data}
 use Rattle.lab_text.specs.Fields.{is_empty, is_names, order_of, is_sets, sets_in, is_row, row_in}

@@ -1,159 +1,86 @@
-// Lines of words: where the words stand, and words that are numbers.
-ghost use Rattle.std.specs.Prelude.{◌≡◌, true, ◌≤◌, ◌<◌};
-ghost use Rattle.lab_text.specs.Fields.{words_of, word_at, place_of};
-ghost use Rattle.lab_text.specs.Inner.{NumberRead, CodeRead, ValueRead, IsWords};
-
-use decimal::Decimal;
-
-// The most that a SAMPLE_ID may be.
-const CODE_MOST: u64 = 4294967295;
+// Lines of four words, and words that are numbers.
+ghost use Rattle.std.specs.Prelude.{◌≡◌, false, ◌≤◌, ◌<◌, ◌^◌, eqb, length, FitsSigned, MatchOption, IfSome};
+ghost use Rattle.std.specs.Int.{w32};
+ghost use Rattle.lab_text.specs.Fields.{words_of, is_number, number_in, is_code, is_value, value_in, place_of};
+ghost use Rattle.lab_text.specs.Inner.{texts, IsRead};
 
 // The words of a row, or of line 2.
 pub const WORDS: usize = 4;
 
-// ---- a word that is a number
-
-// Whether a word is digits and nothing else, and the number that it starts with.
-#[derive(Clone, Copy)]
-pub struct Number {
-    pub right: bool,
-    pub value: u64,
-}
-
-// Reads a word of at most so many digits.
-pub fn read_number(word: &[u8], most: usize) -> Number
+// Reads a word that is a number of at most so many digits.
+pub fn read_number(word: &[u8], most: usize) -> Option<u64>
     requires { most ≤ 10 }
-    ensures { NumberRead most word.now result }
+    ensures is { IsRead (is_number most word.now) (number_in most word.now) result }
+    ensures small { IfSome result (λ n. n < 10 ^ most) }
 {
-    let d = decimal::read_digits(word, 0, most);
-    Number {
-        right: (0 < d.count) & (word.len() <= d.at),
-        value: d.value,
+    let d = decimal::read_digits(word, most)?;
+    if d.rest.is_empty() {
+        Some(d.value)
+    } else {
+        None
     }
-}
-
-// Whether a word is a SAMPLE_ID, and which.
-#[derive(Clone, Copy)]
-pub struct Code {
-    pub right: bool,
-    pub code: u32,
 }
 
 // Reads a SAMPLE_ID.
-fn read_code(word: &[u8]) -> Code
-    ensures { CodeRead word.now result }
+pub fn read_code(word: &[u8]) -> Option<u32>
+    ensures { IsRead (is_code word.now) (number_in 10 word.now) result }
 {
-    let n = read_number(word, 10);
-    if n.value <= CODE_MOST {
-        return Code {
-            right: n.right,
-            code: n.value as u32,
-        };
-    }
-    Code {
-        right: false,
-        code: 0,
-    }
+    u32::try_from(read_number(word, 10)?).ok()
 }
 
-// Whether a word is a decimal and nothing else, and the one that it starts with, in 1/10,000.
-#[derive(Clone, Copy)]
-pub struct Value {
-    pub right: bool,
-    pub value: i32,
-}
-
-// Reads a decimal.
-fn read_value(word: &[u8]) -> Value
-    ensures { ValueRead word.now result }
+// Reads a decimal, in 1/10,000.
+pub fn read_value(word: &[u8]) -> Option<i32>
+    ensures is { IsRead (is_value word.now) (value_in word.now) result }
+    ensures fits { IfSome result (FitsSigned w32) }
 {
-    match decimal::read_decimal(word, 0) {
-        Decimal::Value(v, at) => Value {
-            right: word.len() <= at,
-            value: signed::to_i32(v),
-        },
-        Decimal::Missing => Value {
-            right: false,
-            value: 0,
-        },
+    let (value, rest) = decimal::read_decimal(word)?;
+    if rest.is_empty() {
+        Some(signed::to_i32(value))
+    } else {
+        None
     }
 }
 
-// ---- the words of a line
-
-// Where the second, third and fourth word start, and whether there are four.
+// The words of a line that has four.
 #[derive(Clone, Copy)]
-pub struct Words {
-    pub four: bool,
-    pub second: usize,
-    pub third: usize,
-    pub fourth: usize,
+pub struct Words<'a> {
+    pub all: [&'a [u8]; WORDS],
 }
 
-// Finds the words of a line.
-pub fn read_words(line: &[u8]) -> Words
-    ensures { IsWords line.now result }
+// Reads the words of a line that has four.
+pub fn read_words(line: &[u8]) -> Option<Words<'_>>
+    ensures { let ws = words_of line.now in
+        MatchOption result (eqb (length ws) 4 ≡ false) (λ r. (length ws ≡ 4) × (texts r.all ≡ ws)) }
 {
     let second = buffer::parts::next_part(line, 0, b' ');
     let third = buffer::parts::next_part(line, second, b' ');
     let fourth = buffer::parts::next_part(line, third, b' ');
     let fifth = buffer::parts::next_part(line, fourth, b' ');
-    Words {
-        four: (fourth <= line.len()) & (line.len() < fifth),
-        second,
-        third,
-        fourth,
+    let four = (fourth <= line.len()) & (line.len() < fifth);
+    if !four {
+        return None;
     }
+    let all = [
+        buffer::parts::part(line, 0, b' '),
+        buffer::parts::part(line, second, b' '),
+        buffer::parts::part(line, third, b' '),
+        buffer::parts::part(line, fourth, b' '),
+    ];
+    Some(Words { all })
 }
 
-// The word at a place.
-fn word<'a>(line: &'a [u8], w: Words, k: usize) -> &'a [u8]
-    requires words { IsWords line.now w }
-    requires k_bound { k < 4 }
-    ensures { result.now ≡ word_at (words_of line.now) k }
-{
-    if k == 0 {
-        return buffer::parts::part(line, 0, b' ');
-    }
-    if k == 1 {
-        return buffer::parts::part(line, w.second, b' ');
-    }
-    if k == 2 {
-        return buffer::parts::part(line, w.third, b' ');
-    }
-    buffer::parts::part(line, w.fourth, b' ')
-}
-
-// The SAMPLE_ID at a place.
-pub fn code_at(line: &[u8], w: Words, k: usize) -> Code
-    requires words { IsWords line.now w }
-    requires k_bound { k < 4 }
-    ensures { CodeRead (word_at (words_of line.now) k) result }
-{
-    read_code(word(line, w, k))
-}
-
-// The decimal at a place.
-pub fn value_at(line: &[u8], w: Words, k: usize) -> Value
-    requires words { IsWords line.now w }
-    requires k_bound { k < 4 }
-    ensures { ValueRead (word_at (words_of line.now) k) result }
-{
-    read_value(word(line, w, k))
-}
-
-// Where a name stands among the four words of a line, or 4.
-pub fn place_of(line: &[u8], w: Words, name: &[u8]) -> usize
-    requires words { IsWords line.now w }
-    requires four_words { w.four ≡ true }
-    ensures { result ≡ place_of name.now (words_of line.now) }
-{
-    let mut k = 0;
-    while k < WORDS {
-        if buffer::equal(word(line, w, k), name) {
-            return k;
+impl Words<'_> {
+    // Where a name stands first among the words.
+    pub fn place_of(&self, name: &[u8]) -> Option<usize>
+        requires { length self.now.all ≡ 4 }
+        ensures { let k = place_of name.now (texts self.now.all) in
+            MatchOption result (k ≡ 4) (λ r. (r ≡ k) × (r < 4)) }
+    {
+        for (k, word) in self.all.iter().enumerate() {
+            if buffer::equal(word, name) {
+                return Some(k);
+            }
         }
-        k += 1;
+        None
     }
-    WORDS
 }

@@ -1,8 +1,10 @@
 // The five lines before the rows.
-ghost use Rattle.std.specs.Prelude.{◌≡◌};
+ghost use Rattle.std.specs.Prelude.{◌≡◌, true, false, MatchOption};
 ghost use Rattle.buffer.specs.Numbers.{same};
 ghost use Rattle.buffer.specs.Inner.{parts_from, first_part};
-ghost use Rattle.lab_text.specs.Inner.{NamesRead, SetsRead, HeadRead};
+ghost use Rattle.lab_text.specs.Fields.{is_names, order_of, is_sets, sets_in};
+ghost use Rattle.lab_text.specs.Text.{is_head};
+ghost use Rattle.lab_text.specs.Inner.{IsRead, IsHead};
 
 use super::fields;
 
@@ -15,61 +17,31 @@ pub struct Order {
     pub b: usize,
 }
 
-// Line 2: whether it is the four names, and their order.
-#[derive(Clone, Copy)]
-pub struct Names {
-    pub right: bool,
-    pub order: Order,
-}
-
-// Reads line 2.
-fn read_names(line: &[u8]) -> Names
-    ensures { NamesRead line.now result }
+// Reads line 2, the four names.
+fn read_names(line: &[u8]) -> Option<Order>
+    ensures { IsRead (is_names line.now) (order_of line.now) result }
 {
-    let w = fields::read_words(line);
-    if w.four {
-        let code = fields::place_of(line, w, b"SAMPLE_ID");
-        let l = fields::place_of(line, w, b"LAB_L");
-        let a = fields::place_of(line, w, b"LAB_A");
-        let b = fields::place_of(line, w, b"LAB_B");
-        let right = (code < fields::WORDS)
-            & ((l < fields::WORDS) & ((a < fields::WORDS) & (b < fields::WORDS)));
-        return Names {
-            right,
-            order: Order { code, l, a, b },
-        };
-    }
-    Names {
-        right: false,
-        order: Order {
-            code: 0,
-            l: 0,
-            a: 0,
-            b: 0,
-        },
-    }
+    let words = fields::read_words(line)?;
+    let code = words.place_of(b"SAMPLE_ID")?;
+    let l = words.place_of(b"LAB_L")?;
+    let a = words.place_of(b"LAB_A")?;
+    let b = words.place_of(b"LAB_B")?;
+    Some(Order { code, l, a, b })
 }
 
-// Line 4: whether it is NUMBER_OF_SETS with its number, and the number.
-#[derive(Clone, Copy)]
-pub struct Sets {
-    pub right: bool,
-    pub count: usize,
-}
-
-// Reads line 4.
-fn read_sets(line: &[u8]) -> Sets
-    ensures { SetsRead line.now result }
+// Reads line 4, NUMBER_OF_SETS with its number.
+fn read_sets(line: &[u8]) -> Option<usize>
+    ensures { IsRead (is_sets line.now) (sets_in line.now) result }
 {
     let second = buffer::parts::next_part(line, 0, b' ');
     let third = buffer::parts::next_part(line, second, b' ');
     let two = (second <= line.len()) & (line.len() < third);
     let named = buffer::equal(buffer::parts::part(line, 0, b' '), b"NUMBER_OF_SETS");
-    let n = fields::read_number(buffer::parts::part(line, second, b' '), 5);
-    Sets {
-        right: two & (named & n.right),
-        count: n.value as usize,
+    if !(two & named) {
+        return None;
     }
+    let sets = fields::read_number(buffer::parts::part(line, second, b' '), 5)?;
+    Some(sets as usize)
 }
 
 // Whether the line that starts at a place is this keyword.
@@ -79,34 +51,33 @@ fn line_is(text: &[u8], at: usize, keyword: &[u8]) -> bool
     buffer::equal(buffer::parts::part(text, at, b'\n'), keyword)
 }
 
-// Whether the five lines are right, what they say, and where the rows start.
+// What the five lines say, and where the rows start.
 #[derive(Clone, Copy)]
 pub struct Head {
-    pub right: bool,
     pub order: Order,
     pub sets: usize,
     pub rows: usize,
 }
 
 // Reads the five lines.
-pub fn read_head(text: &[u8]) -> Head
-    ensures { HeadRead text.now result }
+pub fn read_head(text: &[u8]) -> Option<Head>
+    ensures { let right = is_head text.now in
+        MatchOption result (right ≡ false) (λ h. (right ≡ true) × IsHead text.now h) }
 {
     let second = buffer::parts::next_part(text, 0, b'\n');
     let third = buffer::parts::next_part(text, second, b'\n');
     let fourth = buffer::parts::next_part(text, third, b'\n');
     let fifth = buffer::parts::next_part(text, fourth, b'\n');
     let rows = buffer::parts::next_part(text, fifth, b'\n');
+    let names = buffer::parts::part(text, second, b'\n');
+    let sets = buffer::parts::part(text, fourth, b'\n');
     let format = line_is(text, 0, b"BEGIN_DATA_FORMAT");
-    let names = read_names(buffer::parts::part(text, second, b'\n'));
     let format_end = line_is(text, third, b"END_DATA_FORMAT");
-    let sets = read_sets(buffer::parts::part(text, fourth, b'\n'));
     let data = line_is(text, fifth, b"BEGIN_DATA");
-    let order = names.order;
-    Head {
-        right: format & (names.right & (format_end & (sets.right & data))),
-        order,
-        sets: sets.count,
-        rows,
+    if !(format & format_end & data) {
+        return None;
     }
+    let order = read_names(names)?;
+    let sets = read_sets(sets)?;
+    Some(Head { order, sets, rows })
 }

@@ -1,12 +1,10 @@
 -- What the C interface hands over: each call's refusal number, and its results through pointers. Assumes nothing.
-use Rattle.std.specs.Prelude.{◌≡◌, Bool, true, false, cond, List, ℕ, Float, length}
+use Rattle.std.specs.Prelude.{◌≡◌, Bool, true, false, cond, List, ℕ, Float, Result, length}
 use Rattle.fixed_point.specs.declared.Reading.{Reading}
 use Rattle.fixed_point.specs.declared.Weights.{Weights}
 use Rattle.deck.specs.Deck.{Deck, Query}
-use Rattle.deck.specs.Answers.{number_of}
+use Rattle.deck.specs.Answers.{Found, Count, Refused as FoundRefused, Short, number_of}
 use Rattle.deck.specs.Search.{search_answer, Searches}
-use Rattle.deck.specs.declared.Found.{Found}
-use Rattle.deck.specs.declared.Found.TheVariants.{Count, Refused as FoundRefused, Short}
 use Rattle.deck_file.specs.Transfers.{Columns, write_answer, read_answer, transfer_number, transfer_size, Writes, Reads}
 use Rattle.lab_text.specs.Imports.{Columns as LabColumns, import_answer, Imports}
 use Rattle.difference.specs.declared.cie94.Application.{Application}
@@ -14,7 +12,6 @@ use Rattle.difference.specs.declared.cie94.Application.TheVariants.{GraphicArts,
 use Rattle.difference.specs.declared.cie94.Comparison.{Comparison}
 use Rattle.difference.specs.declared.cie94.Comparison.TheVariants.{WithStandard, WithoutStandard}
 use Rattle.measure.specs.Answers.{refusal_of, difference_of}
-use Rattle.measure.specs.declared.Difference.{Difference}
 
 abbrev pub reading : Float → Float → Float → Reading
 reading x y z = record { l = x; a = y; b = z }
@@ -32,7 +29,7 @@ comparison_of true = WithStandard
 comparison_of false = WithoutStandard
 
 -- the number returned and the double behind the pointer are those of the answer
-pub record Hands (answer : Difference) (number : ℕ) (double : Float) : Type 0 where
+pub record Hands (answer : Result Float ℕ) (number : ℕ) (double : Float) : Type 0 where
   pub refusal : number ≡ refusal_of answer
   pub difference : double ≡ difference_of answer
 

@@ -9,40 +9,43 @@ ghost use Rattle.difference.specs.Cie76.{cie76_of};
 ghost use Rattle.difference.specs.Cie94.{cie94_of};
 ghost use Rattle.difference.specs.Ciede2000.{ciede2000_of, figures_of};
 ghost use Rattle.difference.specs.Verdict.{within_tolerance};
-ghost use Rattle.measure.specs.Answers.{answer_of, refusal_of, difference_of, yes_of, figures_answer};
+ghost use Rattle.refusal.specs.Refusals.{refused_with};
+ghost use Rattle.measure.specs.Answers.{answer_of, yes_of, figures_answer};
 ghost use Rattle.measure.specs.Calls.{pair_refusal, weighted_refusal, verdict_refusal, ciede2000_answer};
 ghost use Rattle.measure.specs.Many.{results, Compares};
 ghost use Rattle.deck.specs.Deck.{asked, columns};
-ghost use Rattle.deck.specs.Answers.{number_of};
-ghost use Rattle.deck_file.specs.Transfers.{transfer_number, transfer_size, lent};
+ghost use Rattle.deck.specs.Answers.{found, number_of};
+ghost use Rattle.deck_file.specs.Transfers.{lent};
 ghost use Rattle.lahsufiq.specs.Interface.{reading, weights, application_of, comparison_of, one_of, handed_count, Hands, HandsSearch};
 ghost use Rattle.lab_text.specs.Imports.{lent as lent_columns};
 ghost use Rattle.lahsufiq.specs.Interface.{HandsWrite, HandsRead, HandsImport};
 
-use deck::Found;
-use deck_file::Transfer;
+use deck::SearchError;
 use difference::cie94::{Application, Comparison};
 use fixed_point::{Reading, Weights};
-use measure::Difference;
+use measure::Judgement;
+use refusal::Refusal;
 
-// The refusal's number of an answer, 0 for a difference.
-fn number(d: Difference) -> u32
-    ensures { result ≡ refusal_of d }
+// The refusal's number, 0 for an answer.
+fn number<T: Copy>(answer: Result<T, Refusal>) -> u32
+    ensures { result ≡ refused_with answer }
 {
-    match d {
-        Difference::Of(_) => 0,
-        Difference::Refused(k) => k as u32,
+    match answer {
+        Ok(_) => 0,
+        Err(refusal) => u32::from(refusal.number()),
     }
 }
 
-// The difference, 0 for a refusal.
-fn value(d: Difference) -> f64
-    ensures { result ≡ difference_of d }
+fn reading(l: f32, a: f32, b: f32) -> Reading
+    ensures { result ≡ reading l a b }
 {
-    match d {
-        Difference::Of(x) => x,
-        Difference::Refused(_) => 0.0,
-    }
+    Reading { l, a, b }
+}
+
+fn weights(l: f32, c: f32, h: f32) -> Weights
+    ensures { result ≡ weights l c h }
+{
+    Weights { l, c, h }
 }
 
 // CIE76 of two readings.
@@ -61,19 +64,11 @@ pub extern "C" fn lq_cie76(
         let answer = answer_of (pair_refusal s t) (cie76_of (sample_of s) (sample_of t)) in
         Hands answer result difference.new }
 {
-    let s = Reading {
-        l: l1,
-        a: a1,
-        b: b1,
-    };
-    let t = Reading {
-        l: l2,
-        a: a2,
-        b: b2,
-    };
-    let d = measure::cie76(s, t);
-    *difference = value(d);
-    number(d)
+    let s = reading(l1, a1, b1);
+    let t = reading(l2, a2, b2);
+    let cie76 = measure::cie76(s, t);
+    *difference = cie76.unwrap_or(0.0);
+    number(cie76)
 }
 
 // The constants that a truth value of C asks for.
@@ -81,9 +76,10 @@ fn application(textile: bool) -> Application
     ensures { result ≡ application_of textile }
 {
     if textile {
-        return Application::Textiles;
+        Application::Textiles
+    } else {
+        Application::GraphicArts
     }
-    Application::GraphicArts
 }
 
 // Whether sample 1 is a standard, from a truth value of C.
@@ -91,9 +87,10 @@ fn comparison(standard: bool) -> Comparison
     ensures { result ≡ comparison_of standard }
 {
     if standard {
-        return Comparison::WithStandard;
+        Comparison::WithStandard
+    } else {
+        Comparison::WithoutStandard
     }
-    Comparison::WithoutStandard
 }
 
 // CIE94 of two readings, with the constants for textiles where asked, sample 1 a standard or not.
@@ -119,24 +116,12 @@ pub extern "C" fn lq_cie94(
         let answer = answer_of (weighted_refusal s t w) millionths in
         Hands answer result difference.new }
 {
-    let s = Reading {
-        l: l1,
-        a: a1,
-        b: b1,
-    };
-    let t = Reading {
-        l: l2,
-        a: a2,
-        b: b2,
-    };
-    let w = Weights {
-        l: kl,
-        c: kc,
-        h: kh,
-    };
-    let d = measure::cie94(s, t, w, application(textile), comparison(standard));
-    *difference = value(d);
-    number(d)
+    let s = reading(l1, a1, b1);
+    let t = reading(l2, a2, b2);
+    let w = weights(kl, kc, kh);
+    let cie94 = measure::cie94(s, t, w, application(textile), comparison(standard));
+    *difference = cie94.unwrap_or(0.0);
+    number(cie94)
 }
 
 // CIEDE2000 of two readings.
@@ -156,24 +141,12 @@ pub extern "C" fn lq_ciede2000(
     ensures { let answer = ciede2000_answer (reading l1 a1 b1) (reading l2 a2 b2) (weights kl kc kh) in
         Hands answer result difference.new }
 {
-    let s = Reading {
-        l: l1,
-        a: a1,
-        b: b1,
-    };
-    let t = Reading {
-        l: l2,
-        a: a2,
-        b: b2,
-    };
-    let w = Weights {
-        l: kl,
-        c: kc,
-        h: kh,
-    };
-    let d = measure::ciede2000(s, t, w);
-    *difference = value(d);
-    number(d)
+    let s = reading(l1, a1, b1);
+    let t = reading(l2, a2, b2);
+    let w = weights(kl, kc, kh);
+    let ciede2000 = measure::ciede2000(s, t, w);
+    *difference = ciede2000.unwrap_or(0.0);
+    number(ciede2000)
 }
 
 // CIEDE2000 of many pairs, each with its refusal. The call itself is never refused.
@@ -196,20 +169,9 @@ pub extern "C" fn lq_ciede2000_many(
     ensures colours { (standards.exit.now ≡ standards.entry.now)
         × (samples.exit.now ≡ samples.entry.now) }
 {
-    let w = Weights {
-        l: kl,
-        c: kc,
-        h: kh,
-    };
+    let w = weights(kl, kc, kh);
     *pairs = measure::ciede2000_many(standards, samples, w, differences, refusals);
     0
-}
-
-// 1 for yes and 0 for no.
-fn one(t: bool) -> u8
-    ensures { result ≡ one_of t }
-{
-    if t { 1 } else { 0 }
 }
 
 // CIEDE2000 of two readings, and 1 where it is at most the tolerance, else 0.
@@ -240,26 +202,17 @@ pub extern "C" fn lq_verdict(
         let yes = within_tolerance millionths (fixed_size tolerance) in
         within.new ≡ one_of (yes_of (verdict_refusal s t w tolerance) yes) }
 {
-    let s = Reading {
-        l: l1,
-        a: a1,
-        b: b1,
-    };
-    let t = Reading {
-        l: l2,
-        a: a2,
-        b: b2,
-    };
-    let w = Weights {
-        l: kl,
-        c: kc,
-        h: kh,
-    };
-    let v = measure::verdict(s, t, w, tolerance);
-    let d = v.difference;
-    *difference = value(d);
-    *within = one(v.within);
-    number(d)
+    let s = reading(l1, a1, b1);
+    let t = reading(l2, a2, b2);
+    let w = weights(kl, kc, kh);
+    let answer = measure::verdict(s, t, w, tolerance);
+    let judgement = answer.unwrap_or(Judgement {
+        difference: 0.0,
+        within: false,
+    });
+    *difference = judgement.difference;
+    *within = u8::from(judgement.within);
+    number(answer)
 }
 
 // The 23 figures of the working of CIEDE2000.
@@ -283,46 +236,23 @@ pub extern "C" fn lq_figures(
         let row = figures_answer (weighted_refusal s t w) (figures_of (weights_of w) (sample_of s) (sample_of t)) in
         figures.new ≡ row }
 {
-    let s = Reading {
-        l: l1,
-        a: a1,
-        b: b1,
-    };
-    let t = Reading {
-        l: l2,
-        a: a2,
-        b: b2,
-    };
-    let w = Weights {
-        l: kl,
-        c: kc,
-        h: kh,
-    };
+    let s = reading(l1, a1, b1);
+    let t = reading(l2, a2, b2);
+    let w = weights(kl, kc, kh);
     let answer = measure::figures(s, t, w);
-    let row = answer.row;
-    *figures = row;
-    answer.refusal as u32
+    *figures = answer.unwrap_or([0; 23]);
+    number(answer)
 }
 
-// The refusal's number, 0 for a count.
-fn found_number(f: Found) -> u32
-    ensures { result ≡ number_of f }
+// The refusal's number, and the number of matches, or with refusal 8 the number needed.
+fn number_and_count(answer: Result<usize, SearchError>) -> (u32, usize)
+    ensures number { result.0 ≡ number_of (found answer) }
+    ensures count { result.1 ≡ handed_count (found answer) }
 {
-    match f {
-        Found::Count(_) => 0,
-        Found::Refused(k) => k as u32,
-        Found::Short(_) => 8,
-    }
-}
-
-// The number of matches, or with refusal 8 the number needed.
-fn found_count(f: Found) -> usize
-    ensures { result ≡ handed_count f }
-{
-    match f {
-        Found::Count(n) => n,
-        Found::Refused(_) => 0,
-        Found::Short(n) => n,
+    match answer {
+        Ok(n) => (0, n),
+        Err(SearchError::Refused(refusal)) => (u32::from(refusal.number()), 0),
+        Err(SearchError::Short(needed)) => (8, needed),
     }
 }
 
@@ -348,39 +278,11 @@ pub extern "C" fn lq_search(
     ensures columns { (l.exit.now ≡ l.entry.now)
         × ((a.exit.now ≡ a.entry.now) × (b.exit.now ≡ b.entry.now)) }
 {
-    let r = Reading {
-        l: rl,
-        a: ra,
-        b: rb,
-    };
-    let w = Weights {
-        l: kl,
-        c: kc,
-        h: kh,
-    };
-    let found = deck::search(l, a, b, r, w, tolerance, places);
-    *count = found_count(found);
-    found_number(found)
-}
-
-// The refusal's number, 0 for a file or a deck.
-fn transfer_number(t: Transfer) -> u32
-    ensures { result ≡ transfer_number t }
-{
-    match t {
-        Transfer::Done(_) => 0,
-        Transfer::Refused(k) => k as u32,
-    }
-}
-
-// The length of a file or the number of swatches, 0 for a refusal.
-fn transfer_size(t: Transfer) -> usize
-    ensures { result ≡ transfer_size t }
-{
-    match t {
-        Transfer::Done(n) => n,
-        Transfer::Refused(_) => 0,
-    }
+    let r = reading(rl, ra, rb);
+    let w = weights(kl, kc, kh);
+    let (number, n) = number_and_count(deck::search(l, a, b, r, w, tolerance, places));
+    *count = n;
+    number
 }
 
 // A deck as the bytes of a file, to the front of the list that was lent.
@@ -398,8 +300,8 @@ pub extern "C" fn lq_deck_write(
         × ((a.exit.now ≡ a.entry.now) × (b.exit.now ≡ b.entry.now)) }
 {
     let written = deck_file::write(l, a, b, file);
-    *length = transfer_size(written);
-    transfer_number(written)
+    *length = written.unwrap_or(0);
+    number(written)
 }
 
 // The deck of a file's bytes, to the front of the columns that were lent.
@@ -417,8 +319,8 @@ pub extern "C" fn lq_deck_read(
     ensures file { file.exit.now ≡ file.entry.now }
 {
     let found = deck_file::read(file, l, a, b);
-    *count = transfer_size(found);
-    transfer_number(found)
+    *count = found.unwrap_or(0);
+    number(found)
 }
 
 // The swatches of the lab's text in rising lightness, to the front of the columns that were lent.
@@ -437,6 +339,6 @@ pub extern "C" fn lq_import(
     ensures text { text.exit.now ≡ text.entry.now }
 {
     let imported = lab_text::import(text, code, l, a, b);
-    *count = transfer_size(imported);
-    transfer_number(imported)
+    *count = imported.unwrap_or(0);
+    number(imported)
 }

@@ -2,43 +2,28 @@
 // codes of the swatches within a tolerance, or the refusal, as the search of the list finds them.
 #![tactic(auto)]
 
-ghost use Rattle.std.specs.Prelude.{◌≤◌, length};
-
-use deck::{Found, MOST_SWATCHES};
-use deck_file::Transfer;
+use deck::{MOST_SWATCHES, SearchError};
 use fixed_point::{Reading, Weights};
 use std::io;
-use std::io::Read;
 use swatches::Swatch;
 
 // Room for the text.
 const TEXT_MOST: usize = 65536;
 
-// A place as an index.
-fn index(place: u16) -> usize {
-    place as usize
-}
+const ONES: Weights = Weights {
+    l: 1.0,
+    c: 1.0,
+    h: 1.0,
+};
 
 // The codes at the first n places.
-fn print_codes(
-    rt: &impl Print,
-    list: [Swatch; MOST_SWATCHES],
-    places: &[u16],
-    n: usize,
-) -> io::Result<()> {
+fn print_codes(rt: &impl Print, list: &[Swatch], places: &[u16], n: usize) -> io::Result<()> {
     for place in places.iter().take(n) {
-        let at = index(*place);
-        if at < MOST_SWATCHES {
-            let s = list[at];
+        if let Some(s) = list.get(usize::from(*place)) {
             print!(rt; " {}", s.code)?;
         }
     }
     Ok(())
-}
-
-// A number after some words.
-fn print_number(rt: &impl Print, words: &str, n: usize) -> io::Result<()> {
-    print!(rt; "{words}{n}")
 }
 
 // A search of the first n records for those within a tolerance of a reading.
@@ -50,20 +35,13 @@ fn case(
     tolerance: f32,
     places: &mut [u16],
 ) -> io::Result<()> {
-    let ones = Weights {
-        l: 1.0,
-        c: 1.0,
-        h: 1.0,
-    };
-    let found = records::search_list(list, n, reading, ones, tolerance, places);
-    match found {
-        Found::Count(count) => {
-            print_number(rt, "found ", count)?;
-            print!(rt; ":")?;
-            print_codes(rt, list, places, count)?;
+    match records::search_list(list, n, reading, ONES, tolerance, places) {
+        Ok(count) => {
+            print!(rt; "found {count}:")?;
+            print_codes(rt, &list, places, count)?;
         }
-        Found::Refused(k) => print_number(rt, "refused ", k as usize)?,
-        Found::Short(needed) => print_number(rt, "refused 8, needs ", needed)?,
+        Err(SearchError::Refused(refusal)) => print!(rt; "refused {}", refusal.number())?,
+        Err(SearchError::Short(needed)) => print!(rt; "refused 8, needs {needed}")?,
     }
     println!(rt;)
 }
@@ -93,33 +71,12 @@ fn cases(rt: &impl Print, list: [Swatch; MOST_SWATCHES], n: usize) -> io::Result
     case(rt, list, MOST_SWATCHES, standard, 12.0, &mut places)
 }
 
-// Reads until the buffer is full or the input ends: how many bytes it read. A read that fails counts
-// as the end.
-fn read_full<R: Read>(input: &mut R, buffer: &mut [u8]) -> usize
-    ensures { result ≤ length buffer.new }
-{
-    let mut done = 0;
-    while done < buffer.len() {
-        match input.read(&mut buffer[done..]) {
-            Ok(0) => return done,
-            Ok(n) => done += n,
-            Err(_) => return done,
-        }
-    }
-    done
-}
-
 fn main(rt: HostRuntime) -> io::Result<()> {
     let mut text = [0u8; TEXT_MOST];
-    let n = read_full(&mut rt.stdin(), &mut text);
+    let n = input::read_full(&mut rt.stdin(), &mut text);
     let imported = records::import_list(&text[..n]);
-    let list = imported.records;
-    let answer = imported.answer;
-    match answer {
-        Transfer::Done(count) => cases(&rt, list, count),
-        Transfer::Refused(k) => {
-            print_number(&rt, "refused ", k as usize)?;
-            println!(rt;)
-        }
+    match imported.answer {
+        Ok(count) => cases(&rt, imported.records, count),
+        Err(refusal) => println!(rt; "refused {}", refusal.number()),
     }
 }

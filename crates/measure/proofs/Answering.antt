@@ -1,89 +1,117 @@
 -- Pairs answered one after the other, with weights that are rounded once. Assumes nothing.
-use mathlib.Core.Path.{◌≡◌, refl, ap, ap₂, ◌∙◌, subst}
+use mathlib.Core.Path.{◌≡◌, refl, sym, ap, ap₂, ◌∙◌}
 use mathlib.Core.List.{List}
-use Prim.Native.Nat.{ℕ, zero, suc, ◌+◌, ◌*◌, ◌/◌, ◌≤◌, ◌<◌, min}
-use native.Mathlib.Nat.{min-le_left, min-le_right}
-use native.Mathlib.Omega.{arith}
+use Prim.Native.Nat.{ℕ, ◌+◌, ◌*◌, ◌≤◌, ◌<◌}
 use lib.Ieee.{Float}
 use lib.ListN.{length, set}
+use Rattle.std.specs.Prelude.{Result, Ok, Err, IfOk}
+use Rattle.std.proofs.lemmas.Result.{IfOk-at_ok}
 use Rattle.places.specs.Places.{column_of}
 use Rattle.places.proofs.Columns.{column-more}
-use Rattle.sample.specs.Refusals.{first_of}
+use Rattle.refusal.specs.Refusals.{number_of, first_of, refused_with}
+use Rattle.refusal.specs.declared.Refusal.{Refusal}
+use Rattle.refusal.proofs.RefusalLaws.{first-none, first-zero, given-same, not-zero, gives-value, gives-refusal}
+use Rattle.sample.specs.Inner.{WeightsIn}
 use Rattle.sample.specs.declared.FixedWeights.{FixedWeights}
-use Rattle.sample.proofs.RefusalLaws.{first-none}
 use Rattle.fixed_point.specs.Refusals.{weights_refusal}
 use Rattle.fixed_point.specs.Samples.{sample_of, weights_of}
 use Rattle.fixed_point.specs.declared.Reading.{Reading}
 use Rattle.fixed_point.specs.declared.Weights.{Weights}
 use Rattle.difference.specs.Ciede2000.{ciede2000_of}
-use Rattle.difference.specs.Inner.{prepared_sample, IsPrepared, Millionths}
+use Rattle.difference.specs.Inner.{prepared_sample, Millionths}
 use Rattle.difference.specs.declared.prepared.Prepared.{Prepared}
 use Rattle.measure.specs.Answers.{double_of, answer_of, refusal_of, difference_of}
-use Rattle.measure.specs.Calls.{pair_refusal, ciede2000_answer}
-use Rattle.measure.specs.Many.{reading_at, pair_count, pair_answer, results, Answered, Results}
-use Rattle.measure.specs.Inner.{Rounded, rounded_answer, rounded_pair, AnswerIs}
-use Rattle.measure.specs.declared.Difference.{Difference}
-use Rattle.measure.specs.declared.Difference.TheVariants.{Of}
-use Rattle.measure.specs.declared.many.PairAnswer.{PairAnswer}
-use Rattle.measure.proofs.Refusing.{given, weighted-is}
+use Rattle.measure.specs.Calls.{pair_refusal, weighted_refusal, ciede2000_answer}
+use Rattle.measure.specs.Many.{reading_at, pair_answer, Answered, Results}
+use Rattle.measure.specs.Inner.{IsAccepted, rounded_answer, rounded_pair}
+use Rattle.measure.specs.declared.Accepted.{Accepted}
+use Rattle.measure.proofs.Refusing.{weighted-is}
 
 -- ---- a pair
 
--- the millionths count only where nothing is refused
-answer-same : (k : ℕ) {m n : ℕ} → (k ≡ 0 → m ≡ n) → answer_of k m ≡ answer_of k n
-unfolding answer_of
-answer-same zero e = ap (λ n. answer_of 0 n) (e refl)
-answer-same (suc k) e = refl
+-- an accepted pair of readings and weights, as the working takes it
+pub record Worked (s t : Reading) (w : Weights) (x : Accepted) : Type 0 where
+  pub none : weighted_refusal s t w ≡ 0
+  pub first : prepared_sample x.s ≡ sample_of s
+  pub second : prepared_sample x.t ≡ sample_of t
+  pub weights : x.w ≡ weights_of w
+  pub weights_in : WeightsIn x.w
+
+-- r is what the weights are rounded to, or their refusal
+pub weighted-by : (s t : Reading) (w : Weights) (r : Result FixedWeights Refusal) → refused_with r ≡ weights_refusal w
+    → first_of (pair_refusal s t) (refused_with r) ≡ weighted_refusal s t w
+weighted-by s t w r e = ap (λ (n : ℕ). first_of (pair_refusal s t) n) e ∙ weighted-is s t w
+
+pub worked : (s t : Reading) (w : Weights) {r : Result FixedWeights Refusal} {x : Accepted} → refused_with r ≡ weights_refusal w
+    → IfOk r (λ v. v ≡ weights_of w) → 0 ≡ first_of (pair_refusal s t) (refused_with r) → IsAccepted s t r x → Worked s t w x
+worked s t w {r} e rounded none a =
+    record {
+      none = sym (none ∙ weighted-by s t w r e);
+      first = a.first;
+      second = a.second;
+      weights = IfOk-at_ok (λ v. v ≡ weights_of w) a.weights rounded;
+      weights_in = a.weights_in;
+    }
+
+-- CIEDE2000 of it
+pub ciede2000-worked : (s t : Reading) (w : Weights) {x : Accepted} {n : ℕ} → Worked s t w x
+    → Millionths (ciede2000_of x.w (prepared_sample x.s) (prepared_sample x.t)) n
+    → n ≡ ciede2000_of (weights_of w) (sample_of s) (sample_of t)
+ciede2000-worked s t w a m = m.is ∙ (λ i. ciede2000_of (a.weights i) (a.first i) (a.second i))
+
+-- of an accepted pair and rounded weights
+pub rounded-worked : (s t : Reading) {r : Result FixedWeights Refusal} {w : FixedWeights} (p q : Prepared) {d : Float} {n : ℕ}
+    → 0 ≡ first_of (pair_refusal s t) (refused_with r) → r ≡ Ok w → prepared_sample p ≡ sample_of s → prepared_sample q ≡ sample_of t
+    → Millionths (ciede2000_of w (prepared_sample p) (prepared_sample q)) n → d ≡ double_of n → Ok d ≡ rounded_answer r s t
+rounded-worked s t {w = w} p q none f g h m e =
+    let is = e ∙ ap double_of (m.is ∙ (λ i. ciede2000_of w (g i) (h i))) in
+    rw f (gives-value (first-none _ _ (sym none)).0 is)
+
+-- a pair that is refused, or whose weights are
+pub rounded-refused : (s t : Reading) (r : Result FixedWeights Refusal) (e : Refusal)
+    → number_of e ≡ first_of (pair_refusal s t) (refused_with r) → Err (number_of e) ≡ rounded_answer r s t
+rounded-refused s t (Ok w) e h = gives-refusal e _ (h ∙ first-zero _)
+rounded-refused s t (Err x) e h = gives-refusal e _ h
 
 -- rounded weights answer as the weights themselves
-rounded-is : (s t : Reading) (w : Weights) (r : FixedWeights) → Rounded w r
-    → rounded_answer (weights_refusal w) r s t ≡ ciede2000_answer s t w
-unfolding rounded_answer
-rounded-is s t w r e =
-    answer-same (first_of (pair_refusal s t) (weights_refusal w))
-    (λ z. ap (λ x. ciede2000_of x (sample_of s) (sample_of t)) (e.is (first-none (pair_refusal s t) (weights_refusal w) z).1))
-    ∙ ap (λ k. answer_of k (ciede2000_of (weights_of w) (sample_of s) (sample_of t))) (weighted-is s t w)
-
--- the answer of an accepted pair is that of its prepared samples
-pub pair-accepted : (refused : ℕ) (w : FixedWeights) (s t : Reading) {p q : Prepared} {n : ℕ} {r : PairAnswer}
-    → first_of (pair_refusal s t) refused ≡ 0 → IsPrepared (sample_of s) p → IsPrepared (sample_of t) q
-    → Millionths (ciede2000_of w (prepared_sample p) (prepared_sample q)) n → AnswerIs (Of (double_of n)) r
-    → AnswerIs (rounded_answer refused w s t) r
-unfolding rounded_answer
-pair-accepted refused w s t {r = r} none f g m a =
-    let e = m.is ∙ (λ i. ciede2000_of w (f.is i) (g.is i)) in
-    subst (λ d. AnswerIs d r) (given _ _ none (ap double_of e)) a
+rounded-is : (s t : Reading) (w : Weights) (r : Result FixedWeights Refusal) → refused_with r ≡ weights_refusal w
+    → IfOk r (λ v. v ≡ weights_of w) → rounded_answer r s t ≡ ciede2000_answer s t w
+rounded-is s t w (Ok v) e rounded =
+    ap₂ (λ (n m : ℕ). answer_of n m) (sym (first-zero _) ∙ weighted-by s t w (Ok v) e) (λ i. ciede2000_of (rounded i) (sample_of s) (sample_of t))
+rounded-is s t w (Err x) e rounded =
+    given-same _ (λ z. absurd (not-zero x (first-none (pair_refusal s t) (number_of x) z).1))
+    ∙ ap (λ (n : ℕ). answer_of n (ciede2000_of (weights_of w) (sample_of s) (sample_of t))) (weighted-by s t w (Err x) e)
 
 -- ---- the lists
 
 -- nothing is answered yet
-pub answered-none : (answer : ℕ → Difference) (old : Results) → Answered answer 0 old old
+pub answered-none : (answer : ℕ → Result Float ℕ) (old : Results) → Answered answer 0 old old
 unfolding column_of
 answered-none answer old = record { differences = refl; refusals = refl }
 
 -- a pair more is answered
-pub answered-more : (refused : ℕ) (w : FixedWeights) (standards samples : List Float) (n : ℕ) (old new : Results)
-    {s t : Reading} {r : PairAnswer} → let answer = rounded_pair refused w standards samples in Answered answer n old new
+pub answered-more : (w : Result FixedWeights Refusal) (standards samples : List Float) (n : ℕ) (old new : Results)
+    {after : Results} {s t : Reading} {r : Result Float ℕ} → let answer = rounded_pair w standards samples in Answered answer n old new
     → n < length old.differences → n < length old.refusals
-    → s ≡ reading_at standards n → t ≡ reading_at samples n → AnswerIs (rounded_answer refused w s t) r
-    → Answered answer (n + 1) old (results (set new.differences n r.difference) (set new.refusals n r.refusal))
+    → s ≡ reading_at standards n → t ≡ reading_at samples n → r ≡ rounded_answer w s t
+    → after.differences ≡ set new.differences n (difference_of r) → after.refusals ≡ set new.refusals n (refusal_of r)
+    → Answered answer (n + 1) old after
 unfolding rounded_pair
-answered-more refused w standards samples n old new a l m e f r =
-    let answer = rounded_pair refused w standards samples in
-    let pair = ap₂ (λ s t. rounded_answer refused w s t) e f in
+answered-more w standards samples n old new a l m e f g d k =
+    let answer = rounded_pair w standards samples in
+    let pair = g ∙ ap₂ (λ s t. rounded_answer w s t) e f in
     record {
-      differences = column-more (λ j. difference_of (answer j)) _ _ n a.differences l (r.difference ∙ ap difference_of pair);
-      refusals = column-more (λ j. refusal_of (answer j)) _ _ n a.refusals m (r.refusal ∙ ap refusal_of pair);
+      differences = d ∙ column-more (λ j. difference_of (answer j)) _ _ n a.differences l (ap difference_of pair);
+      refusals = k ∙ column-more (λ j. refusal_of (answer j)) _ _ n a.refusals m (ap refusal_of pair);
     }
 
 -- pairs that are answered by rounded weights are answered
-pub answered-rounded : (standards samples : List Float) (w : Weights) (r : FixedWeights) (n : ℕ) (old new : Results) {k : ℕ}
-    → Rounded w r → k ≡ weights_refusal w → Answered (rounded_pair k r standards samples) n old new
+pub answered-rounded : (standards samples : List Float) (w : Weights) (r : Result FixedWeights Refusal) (n : ℕ) (old new : Results)
+    → refused_with r ≡ weights_refusal w → IfOk r (λ v. v ≡ weights_of w) → Answered (rounded_pair r standards samples) n old new
     → Answered (pair_answer standards samples w) n old new
 unfolding rounded_pair pair_answer
-answered-rounded standards samples w r n old new {k} e f a =
-    let same : rounded_pair k r standards samples ≡ pair_answer standards samples w =
-    λ i j. (ap (λ x. rounded_answer x r (reading_at standards j) (reading_at samples j)) f ∙ rounded-is _ _ w r e) i in
+answered-rounded standards samples w r n old new e f a =
+    let same : rounded_pair r standards samples ≡ pair_answer standards samples w = λ i j. rounded-is (reading_at standards j) (reading_at samples j) w r e f i in
     rw same at a
 
 -- ---- the number of pairs
@@ -94,18 +122,3 @@ pub record Held (a b c d n : ℕ) : Type 0 where
   pub samples : 3 * n ≤ b
   pub differences : n ≤ c
   pub refusals : n ≤ d
-
-pub pairs-held : (standards samples differences refusals : ℕ) {n : ℕ} → n ≡ pair_count standards samples differences refusals
-    → Held standards samples differences refusals n
-unfolding pair_count
-pairs-held standards samples differences refusals e =
-    let colours = min (standards / 3) (samples / 3) in
-    let room = min differences refusals in
-    let few = min-le_left colours room in
-    let many = min-le_right colours room in
-    record {
-      standards = omega (arith, few, min-le_left (standards / 3) (samples / 3));
-      samples = omega (arith, few, min-le_right (standards / 3) (samples / 3));
-      differences = omega (arith, many, min-le_left differences refusals);
-      refusals = omega (arith, many, min-le_right differences refusals);
-    }

@@ -6,10 +6,10 @@ use Prim.Native.Nat.{ℕ}
 use lib.IntN.{pos}
 use lib.Ieee.{Float, nan, fin, le}
 use Rattle.places.specs.Places.{column_of}
-use Rattle.sample.specs.Refusals.{first_refusal}
+use Rattle.refusal.specs.Refusals.{first_refusal, given}
 use Rattle.fixed_point.specs.Refusals.{reading_refusal, weights_refusal}
 use Rattle.fixed_point.specs.declared.Weights.{Weights}
-use Rattle.measure.specs.Answers.{answer_of, refusal_of, difference_of}
+use Rattle.measure.specs.Answers.{refusal_of, difference_of}
 use Rattle.measure.specs.Calls.{weighted_refusal}
 use Rattle.measure.specs.Many.{reading_at, pair_count, pair_answer}
 
@@ -38,10 +38,10 @@ weighing k = record { l = whole k; c = whole 1; h = whole 1 }
 -- each pair has its own refusal; the weights' stands after those of the samples
 refusals : (column_of (λ k. refusal_of (pair_answer standards samples (weighing 1) k)) 3 ≡ 0 ∷ 2 ∷ 3 ∷ [])
     × (column_of (λ k. refusal_of (pair_answer standards samples (weighing 11) k)) 3 ≡ 4 ∷ 2 ∷ 3 ∷ [])
-unfolding column_of pair_answer reading_at answer_of weighted_refusal first_refusal reading_refusal weights_refusal le
+unfolding column_of pair_answer reading_at given weighted_refusal first_refusal reading_refusal weights_refusal le
 refusals = (refl, refl)
 
 -- a refused pair's difference is 0
 no_difference : difference_of (pair_answer standards samples (weighing 1) 1) ≡ whole 0
-unfolding pair_answer reading_at answer_of weighted_refusal first_refusal reading_refusal weights_refusal le
+unfolding pair_answer reading_at given weighted_refusal first_refusal reading_refusal weights_refusal le
 no_difference = refl

@@ -1,33 +1,30 @@
--- What the inner functions' contracts cite: weights that are rounded once for many pairs.
-use Rattle.std.specs.Prelude.{◌≡◌, ℕ, List, Float}
-use Rattle.sample.specs.Refusals.{first_of}
+-- What the inner functions' contracts cite: a pair as the working takes it, and weights that are rounded once for many pairs.
+use Rattle.std.specs.Prelude.{◌≡◌, ℕ, List, Float, Result, Ok, Err}
+use Rattle.refusal.specs.Refusals.{number_of, first_of}
+use Rattle.refusal.specs.declared.Refusal.{Refusal}
 use Rattle.sample.specs.Inner.{WeightsIn}
 use Rattle.sample.specs.declared.FixedWeights.{FixedWeights}
-use Rattle.fixed_point.specs.Refusals.{weights_refusal}
-use Rattle.fixed_point.specs.Samples.{sample_of, weights_of}
+use Rattle.fixed_point.specs.Samples.{sample_of}
 use Rattle.difference.specs.Ciede2000.{ciede2000_of}
+use Rattle.difference.specs.Inner.{prepared_sample}
 use Rattle.fixed_point.specs.declared.Reading.{Reading}
-use Rattle.fixed_point.specs.declared.Weights.{Weights}
-use Rattle.measure.specs.Answers.{answer_of, refusal_of, difference_of}
+use Rattle.measure.specs.Answers.{answer_of}
 use Rattle.measure.specs.Calls.{pair_refusal}
 use Rattle.measure.specs.Many.{reading_at}
-use Rattle.measure.specs.declared.Difference.{Difference}
-use Rattle.measure.specs.declared.many.PairAnswer.{PairAnswer}
+use Rattle.measure.specs.declared.Accepted.{Accepted}
 
--- r is what accepted weights are rounded to; for refused ones it may be any weights
-pub record Rounded (w : Weights) (r : FixedWeights) : Type 0 where
-  pub is : weights_refusal w ≡ 0 → r ≡ weights_of w
-  pub within : WeightsIn r
+-- x is the readings s and t and the weights w
+pub record IsAccepted (s t : Reading) (w : Result FixedWeights Refusal) (x : Accepted) : Type 0 where
+  pub first : prepared_sample x.s ≡ sample_of s
+  pub second : prepared_sample x.t ≡ sample_of t
+  pub weights : w ≡ Ok x.w
+  pub weights_in : WeightsIn x.w
 
--- a pair's answer, from the weights' refusal and the rounded weights
-unfoldable pub rounded_answer : ℕ → FixedWeights → Reading → Reading → Difference
-rounded_answer refusal w s t = answer_of (first_of (pair_refusal s t) refusal) (ciede2000_of w (sample_of s) (sample_of t))
-
--- r holds the answer d
-pub record AnswerIs (d : Difference) (r : PairAnswer) : Type 0 where
-  pub refusal : r.refusal ≡ refusal_of d
-  pub difference : r.difference ≡ difference_of d
+-- a pair's answer, from the rounded weights or their refusal
+abbrev pub rounded_answer : Result FixedWeights Refusal → Reading → Reading → Result Float ℕ
+rounded_answer (Ok w) s t = answer_of (pair_refusal s t) (ciede2000_of w (sample_of s) (sample_of t))
+rounded_answer (Err e) s t = answer_of (first_of (pair_refusal s t) (number_of e)) 0
 
 -- so for pair k of two lists of colours
-unfoldable pub rounded_pair : ℕ → FixedWeights → List Float → List Float → ℕ → Difference
-rounded_pair refusal w standards samples k = rounded_answer refusal w (reading_at standards k) (reading_at samples k)
+unfoldable pub rounded_pair : Result FixedWeights Refusal → List Float → List Float → ℕ → Result Float ℕ
+rounded_pair w standards samples k = rounded_answer w (reading_at standards k) (reading_at samples k)

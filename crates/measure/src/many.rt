@@ -1,16 +1,16 @@
-// CIEDE2000 of many pairs in one call: the tables are copied and the weights rounded once for all.
-ghost use Rattle.std.specs.Prelude.{◌≡◌, ◌+◌, ◌*◌, ◌≤◌, ◌<◌, min, length};
-ghost use Rattle.sine.specs.Inner.{SineTable};
-ghost use Rattle.gaussian.specs.Inner.{GaussianTable};
+// CIEDE2000 of many pairs in one call: the weights are rounded once for all.
+ghost use Rattle.std.specs.Prelude.{◌≡◌, ◌+◌, ◌*◌, ◌≤◌, ◌<◌, length, set};
+ghost use Rattle.std.specs.Result.{ForOk};
+ghost use Rattle.refusal.specs.Refusals.{numbered};
 ghost use Rattle.sample.specs.Inner.{WeightsIn};
-ghost use Rattle.sample.specs.Refusals.{first_of};
-ghost use Rattle.measure.specs.Answers.{double_of};
-ghost use Rattle.measure.specs.Calls.{pair_refusal};
+ghost use Rattle.measure.specs.Answers.{refusal_of, difference_of};
 ghost use Rattle.measure.specs.Many.{reading_at, results, Answered, Compares};
-ghost use Rattle.measure.specs.Inner.{Rounded, rounded_answer, rounded_pair, AnswerIs};
-ghost use Rattle.measure.specs.declared.Difference.TheVariants.{Of};
+ghost use Rattle.measure.specs.Inner.{rounded_answer, rounded_pair};
 
+use super::{Accepted, double};
+use difference::ciede2000::{ciede2000, ciede2000_two};
 use fixed_point::{Reading, Weights};
+use refusal::Refusal;
 use sample::FixedWeights;
 
 // A standard and its sample.
@@ -18,40 +18,6 @@ use sample::FixedWeights;
 struct Colours {
     s: Reading,
     t: Reading,
-}
-
-// A pair's refusal, 0 for none, and its difference, 0 for a refused one.
-#[derive(Clone, Copy)]
-struct PairAnswer {
-    refusal: u8,
-    difference: f64,
-}
-
-#[derive(Clone, Copy)]
-struct TwoAnswers {
-    first: PairAnswer,
-    second: PairAnswer,
-}
-
-// The lesser of two numbers.
-fn lesser(x: usize, y: usize) -> usize
-    ensures { result ≡ min x y }
-{
-    if x < y { x } else { y }
-}
-
-// Accepted weights, rounded; for refused ones, with which nothing is worked out, ones.
-fn rounded(weights: Weights) -> FixedWeights
-    ensures { Rounded weights result }
-{
-    if fixed_point::weights_refusal(weights) != 0 {
-        return FixedWeights {
-            l: 10000,
-            c: 10000,
-            h: 10000,
-        };
-    }
-    fixed_point::fixed_weights(weights)
 }
 
 // The colour at a place.
@@ -77,116 +43,82 @@ fn pair_at(standards: &[f32], samples: &[f32], k: usize) -> Colours
     Colours { s, t }
 }
 
-// A pair's refusal; refused is the weights'.
-fn refusal_of(refused: u8, x: Colours) -> u8
-    ensures { result ≡ first_of (pair_refusal x.s x.t) refused }
-{
-    sample::first_of(super::pair_refusal(x.s, x.t), refused)
-}
-
-// The answer of an accepted pair, from its millionths.
-fn accepted(n: u64) -> PairAnswer
-    requires { n ≤ 1400000000 }
-    ensures { AnswerIs (Of (double_of n)) result }
-{
-    PairAnswer {
-        refusal: 0,
-        difference: super::double(n),
-    }
-}
-
 // CIEDE2000 of a pair.
-fn pair_answer(
-    sines: &[u32; 901],
-    gaussians: &[u32; 1201],
-    refused: u8,
-    w: FixedWeights,
-    x: Colours,
-) -> PairAnswer
-    requires tables { (SineTable sines.now) × (GaussianTable gaussians.now) }
-    requires weights_in { WeightsIn w }
-    ensures { AnswerIs (rounded_answer refused w x.s x.t) result }
+fn pair_answer(weights: Result<FixedWeights, Refusal>, x: Colours) -> Result<f64, Refusal>
+    requires { ForOk weights WeightsIn }
+    ensures { numbered result ≡ rounded_answer weights x.s x.t }
 {
-    let refusal = refusal_of(refused, x);
-    if refusal != 0 {
-        return PairAnswer {
-            refusal,
-            difference: 0.0,
-        };
-    }
-    let p = super::prepared(x.s);
-    let q = super::prepared(x.t);
-    accepted(difference::ciede2000::ciede2000(sines, gaussians, w, p, q))
+    let x = Accepted::new(x.s, x.t, weights)?;
+    Ok(double(ciede2000(x.w, x.s, x.t)))
 }
 
 // CIEDE2000 of two pairs, side by side where neither is refused.
 fn two_answers(
-    sines: &[u32; 901],
-    gaussians: &[u32; 1201],
-    refused: u8,
-    w: FixedWeights,
+    weights: Result<FixedWeights, Refusal>,
     x: Colours,
     y: Colours,
-) -> TwoAnswers
-    requires tables { (SineTable sines.now) × (GaussianTable gaussians.now) }
-    requires weights_in { WeightsIn w }
-    ensures first { AnswerIs (rounded_answer refused w x.s x.t) result.first }
-    ensures second { AnswerIs (rounded_answer refused w y.s y.t) result.second }
+) -> (Result<f64, Refusal>, Result<f64, Refusal>)
+    requires { ForOk weights WeightsIn }
+    ensures first { numbered result.0 ≡ rounded_answer weights x.s x.t }
+    ensures second { numbered result.1 ≡ rounded_answer weights y.s y.t }
 {
-    let by_first = refusal_of(refused, x);
-    let by_second = refusal_of(refused, y);
-    if sample::first_of(by_first, by_second) != 0 {
-        let first = pair_answer(sines, gaussians, refused, w, x);
-        let second = pair_answer(sines, gaussians, refused, w, y);
-        return TwoAnswers { first, second };
-    }
-    let p1 = super::prepared(x.s);
-    let q1 = super::prepared(x.t);
-    let p2 = super::prepared(y.s);
-    let q2 = super::prepared(y.t);
-    let n = difference::ciede2000::ciede2000_two(sines, gaussians, w, p1, q1, p2, q2);
-    let first = accepted(n.first);
-    let second = accepted(n.second);
-    TwoAnswers { first, second }
+    let first = Accepted::new(x.s, x.t, weights);
+    let second = Accepted::new(y.s, y.t, weights);
+    let (Ok(p), Ok(q)) = (first, second) else {
+        return (pair_answer(weights, x), pair_answer(weights, y));
+    };
+    let two = ciede2000_two(p.w, p.s, p.t, q.s, q.t);
+    (Ok(double(two.first)), Ok(double(two.second)))
 }
 
-// The answers of n pairs, each in its place.
+// Puts an answer in its place.
+fn put(answer: Result<f64, Refusal>, k: usize, differences: &mut [f64], refusals: &mut [u8])
+    requires { (k < length differences.old) × (k < length refusals.old) }
+    ensures difference { differences.new ≡ set differences.old k (difference_of (numbered answer)) }
+    ensures refusal { refusals.new ≡ set refusals.old k (refusal_of (numbered answer)) }
+{
+    match answer {
+        Ok(difference) => {
+            differences[k] = difference;
+            refusals[k] = 0;
+        }
+        Err(refusal) => {
+            differences[k] = 0.0;
+            refusals[k] = refusal.number();
+        }
+    }
+}
+
+// The answers of n pairs, each in its place, two at a time.
 fn answer_pairs(
-    sines: &[u32; 901],
-    gaussians: &[u32; 1201],
-    refused: u8,
-    w: FixedWeights,
+    weights: Result<FixedWeights, Refusal>,
     n: usize,
     standards: &[f32],
     samples: &[f32],
     differences: &mut [f64],
     refusals: &mut [u8],
 )
-    requires tables { (SineTable sines.now) × (GaussianTable gaussians.now) }
-    requires weights_in { WeightsIn w }
+    requires weights_in { ForOk weights WeightsIn }
     requires colours_in_lists { (3 * n ≤ length standards.now) × (3 * n ≤ length samples.now) }
     requires room { (n ≤ length differences.old) × (n ≤ length refusals.old) }
-    ensures { let answer = rounded_pair refused w standards.now samples.now in
+    ensures { let answer = rounded_pair weights standards.now samples.now in
         let old = results differences.old refusals.old in
         let new = results differences.new refusals.new in
         Answered answer n old new }
 {
-    let mut k = 0;
-    while k + 1 < n {
+    for i in 0..n / 2 {
+        let k = 2 * i;
         let next = k + 1;
         let x = pair_at(standards, samples, k);
         let y = pair_at(standards, samples, next);
-        let two = two_answers(sines, gaussians, refused, w, x, y);
-        differences[k] = two.first.difference;
-        refusals[k] = two.first.refusal;
-        differences[next] = two.second.difference;
-        refusals[next] = two.second.refusal;
-        k += 2;
+        let (first, second) = two_answers(weights, x, y);
+        put(first, k, differences, refusals);
+        put(second, next, differences, refusals);
     }
-    if k < n {
-        let last = pair_answer(sines, gaussians, refused, w, pair_at(standards, samples, k));
-        differences[k] = last.difference;
-        refusals[k] = last.refusal;
+    if n % 2 == 1 {
+        let last = n - 1;
+        let answer = pair_answer(weights, pair_at(standards, samples, last));
+        put(answer, last, differences, refusals);
     }
 }
 
@@ -205,18 +137,11 @@ pub fn ciede2000_many(
     ensures colours { (standards.exit.now ≡ standards.entry.now)
         × (samples.exit.now ≡ samples.entry.now) }
 {
-    let colours = lesser(standards.len() / 3, samples.len() / 3);
-    let room = lesser(differences.len(), refusals.len());
-    let n = lesser(colours, room);
-    let refused = fixed_point::weights_refusal(weights);
-    let w = rounded(weights);
-    let sines = sine::sine_table();
-    let gaussians = gaussian::gaussian_table();
+    let colours = (standards.len() / 3).min(samples.len() / 3);
+    let room = differences.len().min(refusals.len());
+    let n = colours.min(room);
     answer_pairs(
-        &sines,
-        &gaussians,
-        refused,
-        w,
+        weights.rounded(),
         n,
         standards,
         samples,

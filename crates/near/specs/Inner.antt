@@ -1,13 +1,11 @@
--- How far apart in a and b two samples within a tolerance can be, found without the working, and what the code's struct stands for.
+-- How far apart in a and b two samples within a tolerance can be, found without the working.
 -- Weights, tolerances and distances are in 1/10,000, chromas in 10^-7.
 -- Assumes nothing.
 use Rattle.std.specs.Prelude.{◌≡◌, Bool, cond, ℕ, ◌+◌, ◌-◌, ◌*◌, ◌/◌, ◌≤◌, max, min, ltb, nat_abs, ◌-ℤ◌}
 use Rattle.sample.specs.Sample.{Sample}
-use Rattle.sample.specs.Inner.{lab_of, SampleIn, WeightIn}
-use Rattle.sample.specs.declared.FixedWeights.{FixedWeights}
+use Rattle.sample.specs.Inner.{WeightIn}
 use Rattle.difference.specs.Parts.{squared}
 use Rattle.difference.specs.Pair.{lightness_difference}
-use Rattle.near.specs.declared.Neighbourhood.{Neighbourhood}
 
 -- ---- the radius, of the tolerance, the greater weight k of chroma and hue, and a bound n of C1' + C2'
 
@@ -67,27 +65,18 @@ near_radius kl k tolerance s t = radius_of (left_tolerance tolerance kl (nat_abs
 unfoldable pub beyond_radius : ℕ → ℕ → ℕ → Sample → Sample → Bool
 beyond_radius kl k tolerance s t = ltb (near_radius kl k tolerance s t * near_radius kl k tolerance s t) (distance_square s t)
 
--- ---- the code's struct and results
+-- ---- results, and what is worked out of a reading
 
 -- r is x, and at most n
 pub record Most (x n r : ℕ) : Type 0 where
   pub is : r ≡ x
   pub size : r ≤ n
 
--- what the definitions say of the reading, within the limits
-pub record Worked (n : Neighbourhood) : Type 0 where
-  pub reading : SampleIn (lab_of n.reading)
-  pub tolerance : n.tolerance ≤ 1000000
-  pub kl : WeightIn n.kl
-  pub k : WeightIn n.k
-  pub extent : Most (extent (lab_of n.reading)) 1280000 n.extent
-  pub most : Most (chroma_most 750 (lab_of n.reading)) 2560000000 n.most
-  pub saturated : Most (chroma_most 574 (lab_of n.reading)) 2560000000 n.saturated
-
--- the neighbourhood of the reading t at the tolerance τ
-pub record IsNeighbourhood (w : FixedWeights) (τ : ℕ) (t : Sample) (n : Neighbourhood) : Type 0 where
-  pub reading : lab_of n.reading ≡ t
-  pub tolerance : n.tolerance ≡ τ
-  pub kl : n.kl ≡ w.l
-  pub k : n.k ≡ max w.c w.h
-  pub worked : Worked n
+-- a reading t, a tolerance τ and weights within the limits, and what the definitions say of the reading
+pub record Worked (t : Sample) (τ l h e m n : ℕ) : Type 0 where
+  pub tolerance : τ ≤ 1000000
+  pub kl : WeightIn l
+  pub k : WeightIn h
+  pub extent : Most (extent t) 1280000 e
+  pub most : Most (chroma_most 750 t) 2560000000 m
+  pub saturated : Most (chroma_most 574 t) 2560000000 n

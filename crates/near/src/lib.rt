@@ -2,11 +2,10 @@
 // any root, hue or table, so that a search works few swatches in full.
 #![tactic(auto)]
 
-ghost use Rattle.std.specs.Prelude.{◌≡◌, ◌+◌, ◌≤◌, max, min};
-ghost use Rattle.sample.specs.Inner.{lab_of, SampleIn, WeightIn, WeightsIn};
+ghost use Rattle.std.specs.Prelude.{◌≡◌, ◌+◌, ◌≤◌};
+ghost use Rattle.sample.specs.Inner.{lab_of, WeightIn, WeightsIn};
 ghost use Rattle.near.specs.Inner.{extent, saturated, chroma_most, chromas_most, left_tolerance, parts_most, weight_most};
-ghost use Rattle.near.specs.Inner.{radius_of, distance_square, beyond_radius};
-ghost use Rattle.near.specs.Inner.{Worked, IsNeighbourhood, Most};
+ghost use Rattle.near.specs.Inner.{radius_of, distance_square, beyond_radius, Worked, Most};
 
 use sample::{FixedWeights, Lab};
 
@@ -22,68 +21,24 @@ pub struct Neighbourhood {
     pub extent: u64,
     pub most: u64,
     pub saturated: u64,
-}
-
-fn greater(x: u64, y: u64) -> u64
-    ensures { result ≡ max x y }
-{
-    if x < y { y } else { x }
+    pub ghost worked: { Worked (lab_of reading) tolerance kl k extent most saturated },
 }
 
 // The greater of |a| and |b|.
 fn extent(s: Lab) -> u64
-    requires { SampleIn (lab_of s) }
     ensures { Most (extent (lab_of s)) 1280000 result }
 {
-    greater(signed::size(s.a), signed::size(s.b))
+    signed::size(s.a).max(signed::size(s.b))
 }
 
 // A bound of C' that needs no root; f is half the factor by which a' can be longer than a.
 fn chroma_most(f: u64, s: Lab) -> u64
-    requires f_bound { f ≤ 750 }
-    requires sample_in { SampleIn (lab_of s) }
+    requires { f ≤ 750 }
     ensures { Most (chroma_most f (lab_of s)) 2560000000 result }
 {
     let a = f * signed::size(s.a);
     let b = 500 * signed::size(s.b);
-    greater(2 * a + b, a + 2 * b)
-}
-
-// What depends on the weights, the tolerance and the reading.
-pub fn neighbourhood_of(w: FixedWeights, tolerance: u64, reading: Lab) -> Neighbourhood
-    requires weights_in { WeightsIn w }
-    requires tolerance_bound { tolerance ≤ 1000000 }
-    requires sample_in { SampleIn (lab_of reading) }
-    ensures { IsNeighbourhood w tolerance (lab_of reading) result }
-{
-    Neighbourhood {
-        reading,
-        tolerance,
-        kl: w.l,
-        k: greater(w.c, w.h),
-        extent: extent(reading),
-        most: chroma_most(750, reading),
-        saturated: chroma_most(574, reading),
-    }
-}
-
-// Whether the two chromas come to more than 50.
-fn is_saturated(n: Neighbourhood, s: Lab) -> bool
-    requires worked { Worked n }
-    requires sample_in { SampleIn (lab_of s) }
-    ensures { result ≡ saturated (lab_of s) (lab_of n.reading) }
-{
-    500000 < extent(s) + n.extent
-}
-
-// A bound of C1' + C2'.
-fn chromas_most(n: Neighbourhood, s: Lab) -> u64
-    requires worked { Worked n }
-    requires sample_in { SampleIn (lab_of s) }
-    ensures { Most (chromas_most (lab_of s) (lab_of n.reading)) 5120000000 result }
-{
-    let saturated = is_saturated(n, s);
-    chroma_most(signed::pick(saturated, 574, 750), s) + signed::pick(saturated, n.saturated, n.most)
+    (2 * a + b).max(a + 2 * b)
 }
 
 // What a difference d in lightness leaves of the tolerance for chroma and hue.
@@ -93,14 +48,8 @@ fn left_tolerance(tolerance: u64, kl: u64, d: u64) -> u64
     ensures { Most (left_tolerance tolerance kl d) 1000000 result }
 {
     let whole = 5 * tolerance + 4;
-    let spent = lesser(whole, 3 * (40000 * d / (7 * kl)));
-    lesser(tolerance, (whole - spent) / 4)
-}
-
-fn lesser(x: u64, y: u64) -> u64
-    ensures { result ≡ min x y }
-{
-    if x < y { x } else { y }
+    let spent = whole.min(3 * (40000 * d / (7 * kl)));
+    tolerance.min((whole - spent) / 4)
 }
 
 // What the tolerance allows for the parts of chroma and hue together.
@@ -131,8 +80,6 @@ fn radius(tolerance: u64, k: u64, n: u64) -> u64
 
 // da² + db².
 fn distance_square(s: Lab, t: Lab) -> u64
-    requires s_in { SampleIn (lab_of s) }
-    requires t_in { SampleIn (lab_of t) }
     ensures { result ≡ distance_square (lab_of s) (lab_of t) }
 {
     let a = signed::size(signed::difference(t.a, s.a));
@@ -140,15 +87,50 @@ fn distance_square(s: Lab, t: Lab) -> u64
     a * a + b * b
 }
 
-// Whether a swatch is too far from the reading in a and b for a difference within the tolerance.
-pub fn beyond_radius(n: Neighbourhood, s: Lab) -> bool
-    requires worked { Worked n }
-    requires sample_in { SampleIn (lab_of s) }
-    ensures { result ≡ beyond_radius n.kl n.k n.tolerance (lab_of s) (lab_of n.reading) }
-{
-    let reading = n.reading;
-    let d = signed::size(signed::natural_difference(reading.l, s.l));
-    let left = left_tolerance(n.tolerance, n.kl, d);
-    let r = radius(left, n.k, chromas_most(n, s));
-    r * r < distance_square(s, reading)
+impl Neighbourhood {
+    ghost use Rattle.near.specs.InnerNeighbourhood.{IsNeighbourhood};
+
+    // What depends on the weights, the tolerance and the reading.
+    pub fn of(w: FixedWeights, tolerance: u64, reading: Lab) -> Self
+        requires weights_in { WeightsIn w }
+        requires tolerance_bound { tolerance ≤ 1000000 }
+        ensures { IsNeighbourhood w tolerance (lab_of reading) result }
+    {
+        Neighbourhood {
+            reading,
+            tolerance,
+            kl: w.l,
+            k: w.c.max(w.h),
+            extent: extent(reading),
+            most: chroma_most(750, reading),
+            saturated: chroma_most(574, reading),
+        }
+    }
+
+    // Whether the two chromas come to more than 50.
+    fn is_saturated(self, s: Lab) -> bool
+        ensures { result ≡ saturated (lab_of s) (lab_of self.reading) }
+    {
+        500000 < extent(s) + self.extent
+    }
+
+    // A bound of C1' + C2'.
+    fn chromas_most(self, s: Lab) -> u64
+        ensures { Most (chromas_most (lab_of s) (lab_of self.reading)) 5120000000 result }
+    {
+        let saturated = self.is_saturated(s);
+        let most = chroma_most(signed::pick(saturated, 574, 750), s);
+        most + signed::pick(saturated, self.saturated, self.most)
+    }
+
+    // Whether a swatch is too far from the reading in a and b for a difference within the tolerance.
+    pub fn beyond_radius(self, s: Lab) -> bool
+        ensures { result ≡ beyond_radius self.kl self.k self.tolerance (lab_of s) (lab_of self.reading) }
+    {
+        let reading = self.reading;
+        let d = reading.l.abs_diff(s.l);
+        let left = left_tolerance(self.tolerance, self.kl, d);
+        let r = radius(left, self.k, self.chromas_most(s));
+        r * r < distance_square(s, reading)
+    }
 }

@@ -1,16 +1,14 @@
 -- What is written piece by piece is the text program's output for the whole input.
-use Rattle.std.specs.Prelude.{◌≡◌, ℕ, ◌+◌, ◌-◌, ◌≤◌, List, [], ◌++◌, length, take, drop, Option, Some, None}
+use Rattle.std.specs.Prelude.{◌≡◌, ℕ, ◌+◌, ◌-◌, List, [], ◌++◌, length, take, drop, Option, Some, None}
 use Rattle.std.specs.Io.KnownBytes.{Appends, Consumes}
 use mathlib.Core.Path.{refl, sym, ap, ◌∙◌}
 use mathlib.Core.List.{append_assoc, append-nil}
 use native.Mathlib.Omega.{arith}
 use lib.ListN.{length-drop}
-use lib.Seq.{sets-eq, take-add, take_all, take-append_seam}
-use Rattle.std.proofs.lemmas.List.Edits.{sets}
+use lib.Seq.{take-add, take_all}
 use Rattle.text.proofs.Streaming.{after-append, text-append}
-use Rattle.text.specs.Figures.{header_text}
 use Rattle.text.specs.Text.{Held, part}
-use Rattle.text.specs.Stream.{held_after, held_text, state_of, text_so_far}
+use Rattle.text.specs.Stream.{held_after, held_text, state_of}
 
 -- nothing is appended, or two texts one after the other
 pub appends-none : (x : Option (List ℕ)) → Appends x x []
@@ -34,23 +32,9 @@ consumes-more (Some xs) None z a b p q = elim p [ ]
 consumes-more (Some xs) (Some ys) None a b p q = elim q [ ]
 consumes-more (Some xs) (Some ys) (Some zs) a b p q = p ∙ ap (λ (l : List ℕ). a ++ l) q ∙ sym (append_assoc a b zs)
 
--- what stands at the start of a buffer after a text was written there
-pub written-take : (out last text : List ℕ) (r : ℕ) → last ≡ sets out 0 text → r ≡ 0 + length text → length text ≤ length out
-    → take r last ≡ text
-written-take out last text r e n h =
-    let k : r ≡ length text = omega (arith, n) in
-    (λ i. take (k i) (e i)) ∙ ap (take (length text)) (sets-eq text out 0 (omega (arith, h)))
-    ∙ take-append_seam text (drop (0 + length text) out)
-
 pub state-more : (input more : List ℕ) {x y : Held} → x ≡ state_of input → y ≡ held_after x more → y ≡ state_of (input ++ more)
 unfolding state_of
 state-more input more p q = q ∙ ap (λ (h : Held). held_after h more) p ∙ sym (after-append input more (part []))
-
-pub text-more : (input more : List ℕ) → text_so_far (input ++ more) ≡ text_so_far input ++ held_text (state_of input) more
-unfolding state_of text_so_far
-text-more input more =
-    ap (λ (x : List ℕ). header_text ++ x) (text-append input more (part []))
-    ∙ sym (append_assoc header_text (held_text (part []) input) (held_text (held_after (part []) input) more))
 
 pub text-none : (h : Held) → held_text h [] ≡ []
 unfolding held_text

@@ -23,8 +23,7 @@ fn answer<W: Write>(output: &mut W, start: State, chunk: &[u8], out: &mut [u8]) 
     while from < chunk.len() {
         let p = text::step(state, &chunk[from..], out);
         state = p.state;
-        let n = p.written;
-        output.write_all(&out[..n])?;
+        output.write_all(&out[..p.written])?;
         if p.read == 0 {
             return Err(Error::from(ErrorKind::Other));
         }
@@ -38,10 +37,7 @@ fn answer_last<W: Write>(output: &mut W, state: State) -> io::Result<()>
     ensures { OnOk result
         (Appends (W.contents output.old) (W.contents output.new) (last_text (state_held state))) }
 {
-    let last = text::finish(state);
-    let bytes = last.text;
-    let n = last.len;
-    output.write_all(&bytes[..n])
+    output.write_all(text::finish(state).as_bytes())
 }
 
 // Writes the header, and reads and answers to the end of the input: what it writes is the text

@@ -1,7 +1,7 @@
 -- Laws of the places that satisfy a test, of their number, and of a test that holds at every place. Assumes nothing.
 use mathlib.Core.Path.{◌≡◌, refl, sym, ap, ap₂, subst, ◌∙◌}
 use mathlib.Core.Logic.{⊎_elim}
-use mathlib.Core.Bool.{Bool, true, false, cond, ◌&&◌, true≢false}
+use mathlib.Core.Bool.{Bool, true, false, cond, ◌&&◌, true≢false, and-eq-true_iff}
 use mathlib.Core.List.{List, [], ◌∷◌, ◌++◌, append-nil}
 use Prim.Native.Nat.{ℕ, zero, suc, ◌+◌, ◌-◌, ◌≤◌, ◌<◌, zero-le}
 use native.Mathlib.Nat.{zero-add, add-zero, suc-add, le_refl, le_of_suc-le-suc, not-suc-le-zero, eq-or-lt_of_le}
@@ -13,16 +13,6 @@ use lib.Signed.{lt_z, le_z}
 use Rattle.places.specs.Places.{keep, hits, matches_of, tally, every, rising, Among}
 use Rattle.places.specs.Inner.{Split}
 use Rattle.places.proofs.Order.{le_z-refl, le_z-trans, lt_not}
-
--- ---- truth values
-
-and_left : (a b : Bool) → (a && b) ≡ true → a ≡ true
-and_left true b e = refl
-and_left false b e = e
-
-and_right : (a b : Bool) → (a && b) ≡ true → b ≡ true
-and_right true b e = e
-and_right false b e = absurd (true≢false (sym e))
 
 -- ---- `keep`
 
@@ -195,8 +185,8 @@ module _ (f : ℕ → Bool) where
   every-at zero k e l = absurd (not-suc-le-zero l)
   every-at (suc n) k e l =
       ⊎_elim
-      (λ q. ap f q ∙ and_right (every f n) (f n) e)
-      (λ m. every-at n k (and_left (every f n) (f n) e) m)
+      (λ q. ap f q ∙ ((and-eq-true_iff (every f n) (f n)).0 e).1)
+      (λ m. every-at n k ((and-eq-true_iff (every f n) (f n)).0 e).0 m)
       (eq-or-lt_of_le (le_of_suc-le-suc l))
 
   pub every_of : (n : ℕ) → ((k : ℕ) → k < n → f k ≡ true) → every f n ≡ true

@@ -15,7 +15,7 @@ use Rattle.weighting.specs.Weighting.{term_of, hue_term_z, hue_term, lightness_o
 use Rattle.weighting.specs.Weighting.{chroma_weight, hue_weight, hue_distance, rotation_sine, rotation}
 use Rattle.places.specs.Places.{keep, hits, matches_of, every, rising}
 use Rattle.sample.specs.Sample.{colour_refusal, colour_sample}
-use Rattle.sample.specs.Refusals.{first_refusal}
+use Rattle.refusal.specs.Refusals.{first_refusal}
 use Rattle.fixed_point.specs.Rounding.{half_of, nearest_of, fixed_size, fixed_of}
 use Rattle.fixed_point.specs.Refusals.{reading_refusal, weights_refusal, tolerance_refusal}
 use Rattle.fixed_point.specs.Samples.{sample_of, weights_of}

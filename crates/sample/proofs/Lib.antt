@@ -1,3 +1,2 @@
 pub mod SampleLaws
 mod Limits
-pub mod RefusalLaws

@@ -1,40 +1,63 @@
 -- The limits as tests of a number from below and from above. Assumes nothing.
-use mathlib.Core.Path.{◌≡◌, refl}
+use mathlib.Core.Path.{◌≡◌, refl, sym, ap₂, subst, ◌∙◌}
 use mathlib.Core.Bool.{Bool, true, false, not, ◌&&◌, ◌||◌, cond}
-use Prim.Native.Nat.{ℕ, suc, zero-le}
-use native.Mathlib.Omega.{arith}
-use borrow.Author.Tests.{le-ltb, le-leb, lt-leb, ltb-true, ltb-false}
-use lib.Dec.{leb, ltb, eqb}
-use lib.IntN.{ℤ, pos, negsuc}
-use lib.Signed.{le_z}
-use Rattle.sample.specs.Sample.{lightness_out, opponent_out, colour_refusal}
+use Prim.Native.Nat.{ℕ, ◌<◌}
+use lib.Dec.{eqb}
+use lib.IntN.{ℤ}
+use lib.Signed.{mag}
+use mir.Syntax.{w32}
+use mir.Val.{SFits, of_z, to_z}
+use mir.ValLaws.{to_z-of_z}
+use Rattle.sample.specs.Sample.{Colour, lightness_out, opponent_out, colour_refusal}
 use Rattle.sample.specs.Inner.{colour}
+use Rattle.sample.specs.InnerNarrowing.{Narrowed}
 
-not-above : (m n : ℕ) (t : Bool) → ltb m n ≡ t → leb n m ≡ not t
-not-above m n true e = lt-leb n m (ltb-true m n e)
-not-above m n false e = le-leb n m (ltb-false m n e)
+by-outcomes : (x y z : Bool) → cond {A = ℕ} x 2 (cond (y || z) 3 0) ≡ cond (not (not x)) 2 (cond (not (not y && not z)) 3 0)
+by-outcomes true y z = refl
+by-outcomes false true z = refl
+by-outcomes false false true = refl
+by-outcomes false false false = refl
 
-pub lightness-limits : (l : ℤ) → (le_z (pos 0) l && le_z l (pos 1000000)) ≡ not (lightness_out l)
-lightness-limits (pos n) = rw (le-ltb n 0 zero-le, le-leb 0 n zero-le) (not-above 1000000 n _ refl)
-lightness-limits (negsuc n) = refl
-
--- -1 - n is at least -1,280,000
-not-below : (n : ℕ) (t : Bool) → ltb 1280000 (suc n) ≡ t → (leb n 1279999 && true) ≡ not t
-not-below n true e = rw (lt-leb n 1279999 (omega (arith, ltb-true 1280000 (suc n) e)))
-not-below n false e = rw (le-leb n 1279999 (omega (arith, ltb-false 1280000 (suc n) e)))
-
-pub opponent-limits : (x : ℤ) → (le_z (negsuc 1279999) x && le_z x (pos 1280000)) ≡ not (opponent_out x)
-opponent-limits (pos n) = not-above 1280000 n _ refl
-opponent-limits (negsuc n) = not-below n _ refl
-
-none : (p q r : Bool) → (not p && (not q && not r)) ≡ eqb (cond p 2 (cond (q || r) 3 0)) 0
-none true q r = refl
-none false true r = refl
-none false false true = refl
-none false false false = refl
-
--- a colour is not refused where its three numbers are within the limits
-pub within-limits : (l a b : ℤ) →
-    (not (lightness_out l) && (not (opponent_out a) && not (opponent_out b))) ≡ eqb (colour_refusal (colour l a b)) 0
+-- a colour's refusal from the tests of its three numbers, as the machine reads these
+pub refusal-by : (c : Colour) (p q r : Bool) → SFits w32 c.l → SFits w32 c.a → SFits w32 c.b
+    → p ≡ not (lightness_out (to_z w32 (of_z w32 c.l)))
+    → q ≡ not (opponent_out (to_z w32 (of_z w32 c.a)))
+    → r ≡ not (opponent_out (to_z w32 (of_z w32 c.b)))
+    → colour_refusal c ≡ cond (not p) 2 (cond (not (q && r)) 3 0)
 unfolding colour_refusal
-within-limits l a b = none (lightness_out l) (opponent_out a) (opponent_out b)
+refusal-by c p q r hl ha hb e f g =
+    rw (e, f, g, to_z-of_z w32 c.l hl, to_z-of_z w32 c.a ha, to_z-of_z w32 c.b hb) (by-outcomes (lightness_out c.l) (opponent_out c.a) (opponent_out c.b))
+
+pub refusal-lightness : (c : Colour) → SFits w32 c.l → not (lightness_out (to_z w32 (of_z w32 c.l))) ≡ false → colour_refusal c ≡ 2
+unfolding colour_refusal
+refusal-lightness c h e = by-first (lightness_out c.l) _ (rw (to_z-of_z w32 c.l h) at e)
+  where
+    by-first : (x : Bool) (n : ℕ) → not x ≡ false → cond x 2 n ≡ 2
+    by-first true n e = refl
+    by-first false n e = cc
+
+-- where the lightness is within its limits, the test of a and b decides
+pub refusal-opponents : (c : Colour) (p q r : Bool) {t : Bool} → SFits w32 c.l → SFits w32 c.a → SFits w32 c.b
+    → p ≡ not (lightness_out (to_z w32 (of_z w32 c.l)))
+    → q ≡ not (opponent_out (to_z w32 (of_z w32 c.a)))
+    → r ≡ not (opponent_out (to_z w32 (of_z w32 c.b)))
+    → p ≡ true → (q && r) ≡ t → colour_refusal c ≡ cond (not t) 3 0
+refusal-opponents c p q r hl ha hb e f g l ab =
+    refusal-by c p q r hl ha hb e f g ∙ ap₂ (λ (x y : Bool). cond {A = ℕ} (not x) 2 (cond (not y) 3 0)) l ab
+
+-- within the limits is not refused
+pub within-is : (p q r : Bool) → (p && (q && r)) ≡ eqb (cond (not p) 2 (cond (not (q && r)) 3 0)) 0
+within-is true true true = refl
+within-is true true false = refl
+within-is true false r = refl
+within-is false q r = refl
+
+-- ---- a number in 32 bits, as the machine reads it
+pub narrowed-read : {x y : ℤ} → mag y < 2147483648 → Narrowed x y → Narrowed x (to_z w32 (of_z w32 y))
+narrowed-read {x} {y} h = subst (Narrowed x) (sym (to_z-of_z w32 y (record { sfits = h })))
+
+-- a colour of three such numbers
+module _ {l a b p q r : ℤ} (hl : Narrowed l p) (ha : Narrowed a q) (hb : Narrowed b r) where
+  pub narrowed-refusal : colour_refusal (colour p q r) ≡ colour_refusal (colour l a b)
+  unfolding colour_refusal
+  narrowed-refusal = rw (hl.lightness, ha.opponent, hb.opponent)

@@ -1,4 +1,4 @@
 -- What the contracts of `sample` cite.
 pub mod Sample
-pub mod Refusals
+pub mod InnerNarrowing
 pub mod Inner

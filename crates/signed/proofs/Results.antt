@@ -3,6 +3,7 @@ use mathlib.Core.Path.{◌≡◌, refl, sym, ap, ap₂, ◌∙◌}
 use mathlib.Core.Bool.{Bool, true, false, not, ◌&&◌, beq, true≢false}
 use Prim.Native.Nat.{ℕ, ◌+◌, ◌-◌, ◌*◌, ◌/◌, ◌≤◌, ◌<◌}
 use native.Mathlib.Nat.{le_refl, le_trans, le-max_left, le-max_right}
+use native.Mathlib.Decide.{dec_lt}
 use native.Mathlib.Omega.{arith}
 use borrow.Author.Tests.{lt-ltb, le-ltb}
 use lib.Dec.{ltb}
@@ -69,11 +70,19 @@ apart-up x y h =
     }
 
 -- as a choice of two sizes
-pub chosen-down : (x y n : ℕ) → y ≤ x → n ≡ x - y → Apart x y (record { neg = ltb x y; n = n })
+chosen-down : (x y n : ℕ) → y ≤ x → n ≡ x - y → Apart x y (record { neg = ltb x y; n = n })
 chosen-down x y n h e = rw (le-ltb x y h, e) (apart-down x y h)
 
-pub chosen-up : (x y n : ℕ) → x < y → n ≡ y - x → Apart x y (record { neg = ltb x y; n = n })
+chosen-up : (x y n : ℕ) → x < y → n ≡ y - x → Apart x y (record { neg = ltb x y; n = n })
 chosen-up x y n h e = rw (lt-ltb x y h, e) (apart-up x y h)
+
+-- by which of the two is larger
+pub apart-is : (x y : ℕ) {n : ℕ} → n ≡ (x - y) + (y - x) → Apart x y (record { neg = ltb x y; n = n })
+apart-is x y {n} e = by_order (dec_lt x y)
+  where
+    by_order : Dec (x < y) → Apart x y (record { neg = ltb x y; n = n })
+    by_order (yes h) = chosen-up x y n h (omega arith)
+    by_order (no f) = chosen-down x y n (omega (arith, f)) (omega (arith, f))
 
 -- the sign of a sum of numbers with the signs s and t, where e says that the first is the smaller
 abbrev sum_sign : Bool → Bool → Bool → Bool
@@ -119,18 +128,18 @@ module _ (a b : Int) where
   less-down p q = sym (ap₂ lt_z (int-false a p) (int-true b q) ∙ lt-pos-neg a.n b.n)
 
 module _ (a : Int) where
-  pub negative-true : a.neg ≡ true → ltb 0 a.n ≡ lt_z (int a) (pos 0)
+  pub negative-is : (a.neg && ltb 0 a.n) ≡ lt_z (int a) (pos 0)
   unfolding int
-  negative-true p = less-negatives a (record { neg = true; n = 0 }) p refl
+  negative-is = by-sign a.neg refl
+    where
+      by-sign : (s : Bool) → a.neg ≡ s → (s && ltb 0 a.n) ≡ lt_z (int a) (pos 0)
+      by-sign true p = less-negatives a (record { neg = true; n = 0 }) p refl
+      by-sign false p = less-down a (record { neg = true; n = 0 }) p refl
 
-  pub negative-false : a.neg ≡ false → false ≡ lt_z (int a) (pos 0)
+  pub positive-is : (not a.neg && ltb 0 a.n) ≡ lt_z (pos 0) (int a)
   unfolding int
-  negative-false p = less-down a (record { neg = true; n = 0 }) p refl
-
-  pub positive-true : a.neg ≡ true → false ≡ lt_z (pos 0) (int a)
-  unfolding int
-  positive-true p = less-down (record { neg = false; n = 0 }) a refl p
-
-  pub positive-false : a.neg ≡ false → ltb 0 a.n ≡ lt_z (pos 0) (int a)
-  unfolding int
-  positive-false p = less-naturals (record { neg = false; n = 0 }) a refl p
+  positive-is = by-sign a.neg refl
+    where
+      by-sign : (s : Bool) → a.neg ≡ s → (not s && ltb 0 a.n) ≡ lt_z (pos 0) (int a)
+      by-sign true p = less-down (record { neg = false; n = 0 }) a refl p
+      by-sign false p = less-naturals (record { neg = false; n = 0 }) a refl p

@@ -4,7 +4,6 @@
 
 ghost use Rattle.std.specs.Prelude.{◌≡◌, cond, ◌+◌, ◌*◌, ◌/◌, ◌^◌, ◌<◌, eqb, pos, neg_ℤ, nat_abs, ◌+ℤ◌, ◌-ℤ◌, ◌*ℤ◌};
 ghost use Rattle.std.specs.Int.Signed.{lt_z, quot_z};
-ghost use Rattle.std.specs.Int.{w32, cast_unsigned, cast_signed};
 ghost use Rattle.signed.specs.Inner.{int, Exactly, Within, Apart, Size};
 
 // n, or -n where neg is true. Zero may carry either sign.
@@ -14,11 +13,12 @@ pub struct Int {
     pub n: u64,
 }
 
-// n, not below 0.
-pub fn natural(n: u64) -> Int
-    ensures { Exactly (pos n) n result }
-{
-    Int { neg: false, n: n }
+impl From<u64> for Int {
+    ghost from_gives = { λ n r. Exactly (pos n) n r };
+
+    fn from(n: u64) -> Int {
+        Int { neg: false, n }
+    }
 }
 
 // -a.
@@ -54,18 +54,20 @@ pub fn scaled(a: Int, k: u64) -> Int
 }
 
 // x where t is true, else y: a choice of two values, for which no branch is needed.
-pub fn pick(t: bool, x: u64, y: u64) -> u64
+pub fn pick<T: Copy>(t: bool, x: T, y: T) -> T
     ensures { result ≡ cond t x y }
 {
     if t { x } else { y }
 }
 
-// x - y, which may be below 0. A choice of two values and no branch: signs are as good as random.
+// x - y, which may be below 0: no branch, since signs are as good as random.
 pub fn natural_difference(x: u64, y: u64) -> Int
     ensures { Apart x y result }
 {
-    let n = if x < y { y - x } else { x - y };
-    Int { neg: x < y, n }
+    Int {
+        neg: x < y,
+        n: x.abs_diff(y),
+    }
 }
 
 // a + b, in the same way: where the signs differ, the sign is that of the larger.
@@ -112,20 +114,14 @@ pub fn size(a: Int) -> u64
 pub fn is_negative(a: Int) -> bool
     ensures { result ≡ lt_z (int a) (pos 0) }
 {
-    if a.neg {
-        return 0 < a.n;
-    }
-    false
+    a.neg & (0 < a.n)
 }
 
 // Whether a is above 0.
 pub fn is_positive(a: Int) -> bool
     ensures { result ≡ lt_z (pos 0) (int a) }
 {
-    if a.neg {
-        return false;
-    }
-    0 < a.n
+    !a.neg & (0 < a.n)
 }
 
 // Whether a is 0, with either sign.
@@ -135,20 +131,14 @@ pub fn is_zero(a: Int) -> bool
     a.n == 0
 }
 
-// x as a sign and a size.
-pub fn from_i64(x: i64) -> Int
-    ensures { Exactly x (nat_abs x) result }
-{
-    if x < 0 {
-        // -x does not fit at the least `i64`, so one is taken off before the cast and added after it
-        return Int {
-            neg: true,
-            n: ((-1 - x) as u64) + 1,
-        };
-    }
-    Int {
-        neg: false,
-        n: x as u64,
+impl From<i64> for Int {
+    ghost from_gives = { λ x r. Exactly x (nat_abs x) r };
+
+    fn from(x: i64) -> Int {
+        Int {
+            neg: x < 0,
+            n: x.unsigned_abs(),
+        }
     }
 }
 
@@ -163,11 +153,12 @@ pub fn to_i64(a: Int) -> i64
     a.n as i64
 }
 
-// x as a sign and a size.
-pub fn from_i32(x: i32) -> Int
-    ensures { Exactly x (nat_abs x) result }
-{
-    from_i64(x as i64)
+impl From<i32> for Int {
+    ghost from_gives = { λ x r. Exactly x (nat_abs x) r };
+
+    fn from(x: i32) -> Int {
+        Int::from(i64::from(x))
+    }
 }
 
 // a as a machine integer.
@@ -176,24 +167,4 @@ pub fn to_i32(a: Int) -> i32
     ensures { result ≡ int a }
 {
     to_i64(a) as i32
-}
-
-// The bits of x, in two's complement.
-pub fn to_bits(x: i32) -> u32
-    ensures { result ≡ cast_unsigned w32 x }
-{
-    if x < 0 {
-        return 4294967295 - ((-1 - x) as u32);
-    }
-    x as u32
-}
-
-// The number of some bits, in two's complement.
-pub fn from_bits(n: u32) -> i32
-    ensures { result ≡ cast_signed w32 n }
-{
-    if n < 2147483648 {
-        return n as i32;
-    }
-    -1 - ((4294967295 - n) as i32)
 }

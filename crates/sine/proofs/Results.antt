@@ -7,21 +7,17 @@ use native.Mathlib.Omega.{arith}
 use borrow.Author.Tests.{lt-ltb, le-ltb, lt-leb, le-leb}
 use lib.Dec.{leb}
 use lib.IntN.{pos, neg_ℤ}
-use lib.ListN.{length, get_or}
+use lib.ListN.{get_or}
 use Rattle.signed.specs.Inner.{Within}
 use Rattle.signed.proofs.SignedLaws.{int-true, int-false}
-use Rattle.sine.specs.Inner.{SineTable, Entry}
+use Rattle.sine.specs.Inner.{Entry}
 use Rattle.sine.specs.Sine.{sine_entry, sine_half, sine_turn, sine_of}
-use Rattle.sine.proofs.Tabulate.{tabulate, tabulated, length-tabulate}
+use Rattle.sine.proofs.Tabulate.{tabulate, tabulated}
 use Rattle.sine.proofs.SineLaws.{sine_entry-le, half_le}
 
--- a list that is the computed table
-pub sine-table-of : (t : List ℕ) → t ≡ tabulate sine_entry 0 901 → SineTable t
-sine-table-of t e =
-    record {
-      size = ap length e ∙ length-tabulate sine_entry 0 901;
-      entry = λ k h. ap (λ (l : List ℕ). get_or l k 0) e ∙ tabulated sine_entry 901 k h;
-    }
+-- what stands at k of a list that is the computed table
+pub table-entry : (t : List ℕ) → t ≡ tabulate sine_entry 0 901 → (k : ℕ) → k < 901 → get_or t k 0 ≡ sine_entry k
+table-entry t e k h = ap (λ (l : List ℕ). get_or l k 0) e ∙ tabulated sine_entry 901 k h
 
 pub entry_of : {k r : ℕ} → k < 901 → r ≡ sine_entry k → Entry k r
 entry_of {k} {r} h e = record { is = e; size = subst (λ (n : ℕ). n ≤ 1000000000) (sym e) (sine_entry-le k h) }

@@ -5,7 +5,7 @@
 
 ghost use Rattle.std.specs.Prelude.{◌≡◌, ◌≤◌, ◌<◌, ◌^◌};
 ghost use Rattle.signed.specs.Inner.{Within};
-ghost use Rattle.sine.specs.Inner.{SineTable, Entry};
+ghost use Rattle.sine.specs.Inner.{Entry};
 ghost use Rattle.sine.specs.Sine.{interpolated, sine_quarter, sine_half, sine_of, cosine_of};
 
 use signed::Int;
@@ -26,7 +26,7 @@ pub const QUARTER_TURN: u64 = 90000000;
 pub const TENTH: u64 = 100000;
 
 // The sines of 0 to 90 degrees.
-const ENTRIES: [u32; 901] = [
+static ENTRIES: [u32; 901] = [
     0, 1745328, 3490651, 5235964, 6981260, 8726535, 10471784, 12217001, 13962180, 15707317,
     17452406, 19197442, 20942420, 22687334, 24432178, 26176948, 27921639, 29666244, 31410759,
     33155178, 34899497, 36643709, 38387809, 40131793, 41875654, 43619387, 45362988, 47106451,
@@ -141,27 +141,12 @@ const ENTRIES: [u32; 901] = [
     999975631, 999986292, 999993908, 999998477, 1000000000,
 ];
 
-// The table, which a caller copies once and lends to every call below: a lookup in a constant array would store the whole array each time.
-pub fn sine_table() -> [u32; 901]
-    ensures { SineTable result }
-{
-    ENTRIES
-}
-
-// x as it is, in 64 bits.
-fn wide(x: u32) -> u64
-    ensures { result ≡ x }
-{
-    x as u64
-}
-
 // The sine of k tenths of a degree.
-pub fn entry(t: &[u32; 901], k: usize) -> u64
-    requires sine_table { SineTable t.now }
+pub fn entry(k: usize) -> u64
     requires k_bound { k < 901 }
     ensures { Entry k result }
 {
-    wide(t[k])
+    ENTRIES[k] as u64
 }
 
 // The sine of an angle that lies `arc` past a tenth with the sine `sin` and the cosine `cos`.
@@ -176,19 +161,17 @@ fn interpolate(sin: u64, cos: u64, arc: u64) -> u64
 }
 
 // The sine of an angle from 0 to 90 degrees.
-fn quarter(t: &[u32; 901], angle: u64) -> u64
-    requires sine_table { SineTable t.now }
+fn quarter(angle: u64) -> u64
     requires angle_bound { angle ≤ 90000000 }
     ensures { result ≡ sine_quarter angle }
 {
     let k = (angle / TENTH) as usize;
     let arc = angle % TENTH * 17453293 / 1000000;
-    interpolate(entry(t, k), entry(t, 900 - k), arc)
+    interpolate(entry(k), entry(900 - k), arc)
 }
 
 // The sine of an angle from 0 to 180 degrees.
-fn half(t: &[u32; 901], angle: u64) -> u64
-    requires sine_table { SineTable t.now }
+fn half(angle: u64) -> u64
     requires angle_bound { angle ≤ 180000000 }
     ensures { result ≡ sine_half angle }
 {
@@ -198,12 +181,11 @@ fn half(t: &[u32; 901], angle: u64) -> u64
     } else {
         HALF_TURN - angle
     };
-    quarter(t, acute)
+    quarter(acute)
 }
 
 // The sine of any angle.
-pub fn sine(t: &[u32; 901], angle: u64) -> Int
-    requires { SineTable t.now }
+pub fn sine(angle: u64) -> Int
     ensures { Within (sine_of angle) 1000000000 result }
 {
     let turn = angle % TURN;
@@ -212,7 +194,7 @@ pub fn sine(t: &[u32; 901], angle: u64) -> Int
     } else {
         turn - HALF_TURN
     };
-    let n = half(t, past);
+    let n = half(past);
     Int {
         neg: HALF_TURN <= turn,
         n,
@@ -220,10 +202,9 @@ pub fn sine(t: &[u32; 901], angle: u64) -> Int
 }
 
 // The cosine of any angle.
-pub fn cosine(t: &[u32; 901], angle: u64) -> Int
-    requires sine_table { SineTable t.now }
+pub fn cosine(angle: u64) -> Int
     requires angle_bound { angle < 2 ^ 63 }
     ensures { Within (cosine_of angle) 1000000000 result }
 {
-    sine(t, angle + QUARTER_TURN)
+    sine(angle + QUARTER_TURN)
 }

@@ -1,9 +1,5 @@
 -- `OrderLaws` is for callers; the rest is for the proofs of this crate's functions.
 pub mod OrderLaws
 mod PutLaws
-mod SortLaws
-mod Merging
-mod Halves
-mod Parts
 mod PackLaws
 mod Examples

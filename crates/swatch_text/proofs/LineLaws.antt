@@ -1,23 +1,16 @@
 -- Values in a line, and a line at the front of a buffer. Assumes nothing.
-use mathlib.Core.Path.{◌≡◌, ap, ◌∙◌}
+use mathlib.Core.Path.{◌≡◌, ap}
 use mathlib.Core.List.{List, [], ◌∷◌, ◌++◌}
-use Prim.Native.Nat.{ℕ, ◌^◌, ◌≤◌, ◌<◌}
-use native.Mathlib.Omega.{arith}
+use Prim.Native.Nat.{ℕ, ◌^◌, ◌<◌}
 use lib.IntN.{ℤ}
 use lib.Signed.{mag}
-use lib.ListN.{length, take}
-use lib.Seq.{take_at}
 use mir.Syntax.{w32}
 use mir.Val.{hbits, of_z, to_z}
 use mir.Facts.{to_z-of_z}
 use borrow.Author.Rules.{sfits_of}
 use Rattle.buffer.specs.Writing.{Written}
-use Rattle.buffer.proofs.WritingLaws.{written_is, written-front}
+use Rattle.buffer.proofs.WritingLaws.{written_is}
 use Rattle.decimal.specs.Writing.{fixed_text}
-
-pub line-front : {out last x : List ℕ} {n r : ℕ} → Written out 0 x n last r → n ≤ length out → take r last ≡ x
-line-front {x = x} {r = r} w h =
-    ap (take r) (written-front w (omega (arith, w.size))) ∙ take_at x _ r (omega (arith, w.next))
 
 -- a value that was read as y
 pub value_written : {out last : List ℕ} {at n r : ℕ} (end : ℕ) {y z : ℤ} → y ≡ z → Written out at (fixed_text 4 y ++ (end ∷ [])) n last r

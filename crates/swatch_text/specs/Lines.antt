@@ -8,7 +8,3 @@ unfoldable pub swatch_text : Swatch → List ℕ
 swatch_text s =
     (digits_of s.code ++ (32 ∷ [])) ++ ((fixed_text 4 s.l ++ (32 ∷ []))
     ++ ((fixed_text 4 s.a ++ (32 ∷ [])) ++ (fixed_text 4 s.b ++ (10 ∷ []))))
-
--- `refused N` and a newline
-unfoldable pub refused_text : ℕ → List ℕ
-refused_text n = (114 ∷ 101 ∷ 102 ∷ 117 ∷ 115 ∷ 101 ∷ 100 ∷ 32 ∷ []) ++ (digits_of n ++ (10 ∷ []))

@@ -1,30 +1,27 @@
 // A swatch, or a refusal, as a line of text.
 #![tactic(auto)]
 
-ghost use Rattle.std.specs.Prelude.{◌≡◌, [], ◌∷◌, ◌++◌, ◌+◌, ◌≤◌, length, take};
+ghost use Rattle.std.specs.Prelude.{◌≡◌, [], ◌∷◌, ◌++◌, ◌+◌, ◌≤◌, length};
 ghost use Rattle.buffer.specs.Writing.{Written};
-ghost use Rattle.decimal.specs.Writing.{fixed_text};
-ghost use Rattle.swatch_text.specs.Lines.{swatch_text, refused_text};
+ghost use Rattle.decimal.specs.Writing.{fixed_text, refused_text};
+ghost use Rattle.swatch_text.specs.Lines.{swatch_text};
 
+use array_text::ArrayText;
+use signed::Int;
 use swatches::Swatch;
 
 // More bytes than a line has: a number of 21 and three of 23.
 const LINE_MOST: usize = 96;
 
-// A line: the first len bytes.
-#[derive(Clone, Copy)]
-pub struct Line {
-    pub text: [u8; LINE_MOST],
-    pub len: usize,
-}
+// A line, seen as its bytes.
+pub type Line = ArrayText<LINE_MOST>;
 
 // Writes a value in 1/10,000 with its decimals, and the byte `end`.
 fn put_value(out: &mut [u8], at: usize, x: i32, end: u8) -> usize
     requires { at + 23 ≤ length out.old }
     ensures { Written out.old at (fixed_text 4 x ++ (end ∷ [])) 23 out.new result }
 {
-    let v = signed::from_i32(x);
-    decimal::put_fixed(out, at, v, 4, end)
+    decimal::put_fixed(out, at, Int::from(x), 4, end)
 }
 
 // Writes the line of a swatch to the front of a buffer.
@@ -38,29 +35,20 @@ fn put_swatch(out: &mut [u8], s: Swatch) -> usize
     put_value(out, b, s.b, b'\n')
 }
 
-// Writes the line of a refusal to the front of a buffer.
-fn put_refused(out: &mut [u8], n: u8) -> usize
-    requires { 29 ≤ length out.old }
-    ensures { Written out.old 0 (refused_text n) 29 out.new result }
-{
-    let number = buffer::put_bytes(out, 0, b"refused ");
-    decimal::put_number(out, number, n as u64, b'\n')
-}
-
 // The line of a swatch.
 pub fn swatch_line(s: Swatch) -> Line
-    ensures { take result.len result.text ≡ swatch_text s }
+    ensures { result ≡ swatch_text s }
 {
     let mut text = [0u8; LINE_MOST];
     let len = put_swatch(&mut text, s);
-    Line { text, len }
+    ArrayText::new(text, len)
 }
 
 // The line of a refusal.
 pub fn refused_line(n: u8) -> Line
-    ensures { take result.len result.text ≡ refused_text n }
+    ensures { result ≡ refused_text n }
 {
     let mut text = [0u8; LINE_MOST];
-    let len = put_refused(&mut text, n);
-    Line { text, len }
+    let len = decimal::put_refused(&mut text, 0, n);
+    ArrayText::new(text, len)
 }

@@ -1,7 +1,7 @@
 -- Swatches within the limits, put in the order of their lightness, make a valid deck. Assumes nothing.
-use mathlib.Core.Path.{◌≡◌, refl, sym, ap, ap₂, ◌∙◌}
+use mathlib.Core.Path.{◌≡◌, sym, ap, ap₂, ◌∙◌}
 use mathlib.Core.Bool.{Bool, true, and-eq-true_iff}
-use mathlib.Core.List.{List, [], ◌∷◌, map}
+use mathlib.Core.List.{List, [], ◌∷◌}
 use Prim.Native.Nat.{ℕ, zero, suc, ◌≤◌, ◌<◌}
 use native.Mathlib.Nat.{not-suc-le-zero, le_of_suc-le-suc}
 use native.Mathlib.Omega.{arith}
@@ -10,6 +10,7 @@ use lib.IntN.{pos}
 use lib.Signed.{le_z}
 use lib.ListN.{length, get_or, length-map, get_or-map}
 use borrow.Author.Tests.{le-leb, eqb-true}
+use Rattle.std.proofs.lemmas.List as lists
 use Rattle.places.specs.Places.{every, rising}
 use Rattle.places.proofs.PlacesLaws.{every_of}
 use Rattle.sorting.specs.Order.{IsStableOrder}
@@ -21,14 +22,9 @@ use Rattle.deck.proofs.DeckLaws.{sizes-in, refusal_is}
 use Rattle.swatches.specs.Swatches.{colour_in, is_within, no_swatch, swatch_at, all, lightnesses, green_reds, blue_yellows, deck_of}
 use Rattle.swatches.specs.Swatches.{lightness_at, lightness_order, by_lightness}
 use Rattle.swatches.specs.declared.Swatch.{Swatch}
+use Rattle.swatches.proofs.SwatchLaws.{by_lightness-length}
 
 -- ---- lists
-
-module _ {A B : Type 0} (f : A → B) where
-  map_at : (xs : List A) (k : ℕ) (d : B) (e : A) → k < length xs → get_or (map f xs) k d ≡ f (get_or xs k e)
-  map_at [] k d e h = absurd (not-suc-le-zero h)
-  map_at (x ∷ xs) zero d e h = refl
-  map_at (x ∷ xs) (suc k) d e h = map_at xs k d e (le_of_suc-le-suc h)
 
 all-at : (f : Swatch → Bool) (ss : List Swatch) (k : ℕ) → all f ss ≡ true → k < length ss → f (swatch_at ss k) ≡ true
 unfolding all
@@ -61,13 +57,12 @@ module _ (rows : List Swatch) (most : length rows ≤ most_swatches) (within : a
   stands = order_is (lightness_at rows) n
 
   size : length ss ≡ n
-  unfolding by_lightness
-  size = length-map order (swatch_at rows) ∙ stands.size
+  size = by_lightness-length rows
 
   -- what stands at a place is a row, within the limits
   swatch-is : (k : ℕ) → k < n → (deck_of ss).colour k ≡ colour_in (swatch_at rows (get_or order k 0))
   unfolding by_lightness
-  swatch-is k h = deck-colour ss k ∙ ap colour_in (map_at (swatch_at rows) order k no_swatch 0 (omega (arith, stands.size)))
+  swatch-is k h = deck-colour ss k ∙ ap colour_in (lists.get_or-map (swatch_at rows) order k 0 no_swatch (omega (arith, stands.size)))
 
   row_within : (k : ℕ) → k < n → colour_refusal (colour_in (swatch_at rows (get_or order k 0))) ≡ 0
   row_within k h = eqb-true _ 0 (all-at is_within rows (get_or order k 0) within (stands.inside k h))

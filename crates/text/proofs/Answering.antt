@@ -2,19 +2,24 @@
 use mathlib.Core.Path.{◌≡◌, sym, ap, ◌∙◌}
 use mathlib.Core.Bool.{Bool, true, false, ◌||◌, cond}
 use mathlib.Core.List.{[], ◌∷◌}
-use Prim.Native.Nat.{ℕ, zero, suc, ◌<◌}
+use Prim.Native.Nat.{ℕ, zero, suc, ◌+◌, ◌%◌, ◌<◌}
+use native.Mathlib.Omega.{arith}
 use lib.Dec.{lit<}
 use lib.IntN.{pos}
-use borrow.Author.Tests.{eq-eqb, ne_eqb}
+use borrow.Author.Tests.{ne_eqb}
 use Rattle.signed.specs.Inner.{int}
 use Rattle.sample.specs.Sample.{Sample, Colour, lightness_out, opponent_out, colour_refusal, colour_sample}
-use Rattle.sample.specs.Refusals.{first_of}
-use Rattle.sample.proofs.RefusalLaws.{first-none}
+use Rattle.refusal.specs.Refusals.{number_of, first_of}
+use Rattle.refusal.specs.declared.Refusal.{Refusal}
+use Rattle.refusal.proofs.RefusalLaws.{not-zero}
 use Rattle.difference.specs.Cie76.{cie76_of}
 use Rattle.difference.specs.Cie94.{cie94_of}
 use Rattle.difference.specs.declared.cie94.Application.TheVariants.{GraphicArts}
 use Rattle.difference.specs.declared.cie94.Comparison.TheVariants.{WithStandard}
 use Rattle.difference.specs.Ciede2000.{Figures, figures_of}
+use Rattle.decimal.specs.Writing.{last_digits, digits_of, refused_text as decimal_refused}
+use Rattle.decimal.specs.Inner.{digit_count}
+use Rattle.decimal.proofs.WritingLaws.{count-one}
 use Rattle.text.specs.Figures.{figures_text, refused_text}
 use Rattle.text.specs.Text.{plain_weights, figures_list, figures_line, pair_answer}
 use Rattle.text.specs.Inner.{six_list}
@@ -33,20 +38,30 @@ first_small : (m n : ℕ) → m < 10 → n < 10 → first_of m n < 10
 first_small zero n h k = k
 first_small (suc m) n h k = h
 
-module _ (s t : Colour) {r : ℕ} (f : r ≡ first_of (colour_refusal s) (colour_refusal t)) where
-  pub refusal-small : r < 10
-  refusal-small = rw f (first_small (colour_refusal s) (colour_refusal t) (colour-small s) (colour-small t))
+-- a refusal of one digit
+digits-one : (n : ℕ) → n < 10 → digits_of n ≡ (48 + n) ∷ []
+unfolding digits_of last_digits digit_count
+digits-one n h =
+    let m : n % 10 ≡ n = omega arith in
+    ap (λ k. last_digits k n) (count-one n h) ∙ ap (λ d. (48 + d) ∷ []) m
 
-  pub both-none : r ≡ 0 → (colour_refusal s ≡ 0) × (colour_refusal t ≡ 0)
-  both-none e = first-none (colour_refusal s) (colour_refusal t) (sym f ∙ e)
+pub refused-short : (n : ℕ) → n < 10 → decimal_refused n ≡ refused_text n
+unfolding decimal_refused refused_text
+refused-short n h = rw (digits-one n h)
 
-  pub pair-figures : r ≡ 0 → figures_line (colour_sample s) (colour_sample t) ≡ pair_answer s t
+module _ (s t : Colour) where
+  -- neither is refused
+  pub pair-figures : 0 ≡ colour_refusal s → 0 ≡ colour_refusal t → figures_line (colour_sample s) (colour_sample t) ≡ pair_answer s t
   unfolding pair_answer
-  pair-figures e = sym (rw (eq-eqb _ _ (sym f ∙ e)))
+  pair-figures e f = sym (rw (sym e, sym f))
 
-  pub pair-refused : (r ≡ 0 → ⊥) → refused_text r ≡ pair_answer s t
+  -- the first that applies
+  pub pair-refused : (e : Refusal) → number_of e ≡ first_of (colour_refusal s) (colour_refusal t)
+      → decimal_refused (number_of e) ≡ pair_answer s t
   unfolding pair_answer
-  pair-refused e = rw f (sym (rw (ne_eqb (first_of (colour_refusal s) (colour_refusal t)) 0 (λ z. e (f ∙ z)))))
+  pair-refused e h =
+      let small : number_of e < 10 = rw h (first_small (colour_refusal s) (colour_refusal t) (colour-small s) (colour-small t)) in
+      refused-short (number_of e) small ∙ rw h (sym (rw (ne_eqb (first_of (colour_refusal s) (colour_refusal t)) 0 (λ z. not-zero e (h ∙ z)))))
 
 -- the six figures from the calls that work them out
 pub six-figures : {s t p q : Sample} (six : Six) {d76 d94 : ℕ} {f : Figures} → p ≡ s → q ≡ t

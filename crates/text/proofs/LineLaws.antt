@@ -1,27 +1,14 @@
 -- What a line says, from what was found at its places.
-use mathlib.Core.Path.{◌≡◌, refl, sym, ap, ◌∙◌}
+use mathlib.Core.Path.{◌≡◌, refl, sym}
 use mathlib.Core.List.{List, [], ◌∷◌}
 use Prim.Native.Nat.{ℕ, ◌<◌}
 use native.Mathlib.Omega.{arith}
 use lib.IntN.{ℤ}
-use lib.ListN.{length, drop}
+use lib.ListN.{length}
 use Rattle.decimal.specs.Reading.{found, missing, after_space, decimal_of}
-use Rattle.decimal.specs.Inner.{decimal_found, DecimalRead}
-use Rattle.decimal.specs.declared.Decimal.{Decimal}
 use Rattle.sample.specs.Sample.{Colour}
 use Rattle.text.specs.Line.{read_colour, read_pair}
 use Rattle.text.specs.Text.{answer_of}
-use Rattle.text.specs.Inner.{colour_found}
-use Rattle.text.specs.declared.ColourRead.{ColourRead}
-
--- what was read from the place k on, where the bytes bs stand
-pub decimal-at : (s : List ℕ) (k : ℕ) {bs : List ℕ} {r x : Decimal} → drop k s ≡ bs
-    → DecimalRead s (decimal_of (drop k s)) r → r ≡ x → decimal_of bs ≡ decimal_found s x
-decimal-at s k e d p = ap decimal_of (sym e) ∙ sym d.is ∙ ap (decimal_found s) p
-
-pub colour-at : (s : List ℕ) (k : ℕ) {bs : List ℕ} {r x : ColourRead} → drop k s ≡ bs
-    → colour_found s r ≡ read_colour (drop k s) → r ≡ x → read_colour bs ≡ colour_found s x
-colour-at s k e d p = ap read_colour (sym e) ∙ sym d ∙ ap (colour_found s) p
 
 module _ (bs : List ℕ) where
   pub colour-none : decimal_of bs ≡ missing → missing ≡ read_colour bs
@@ -56,6 +43,10 @@ module _ (bs : List ℕ) where
         → found (v, w) o ≡ read_pair bs
     unfolding read_pair
     pair-two f g = sym (rw (e, f, g))
+
+pub nothing_left : (q : List ℕ) → length q ≡ 0 → q ≡ []
+nothing_left [] h = refl
+nothing_left (b ∷ q) h = absurd (omega arith)
 
 -- something stands after sample 2
 pub more-refused : (x : Colour × Colour) (q : List ℕ) → 0 < length q → answer_of missing ≡ answer_of (found x q)

@@ -5,16 +5,14 @@ use mathlib.Core.List.{List, [], ◌∷◌, ◌++◌, append_assoc, append-nil}
 use Prim.Native.Nat.{ℕ, ◌+◌, ◌≤◌, ◌<◌}
 use native.Mathlib.Numerals.{add-one}
 use native.Mathlib.Omega.{arith}
-use lib.Dec.{eqb, lit≤}
+use lib.Dec.{eqb}
 use lib.ListN.{length, get_or, take, length-append}
 use lib.Seq.{length-sets, take-suc}
 use borrow.Author.Tests.{eq-eqb, ne_eqb}
 use Rattle.buffer.specs.Writing.{Written}
 use Rattle.buffer.proofs.WritingLaws.{written-append, written_is, written_none}
-use Rattle.text.specs.Text.{line_most, Held, part, held_answer}
-use Rattle.text.specs.Stream.{answer_most, held_with, held_after, held_text, held_in}
-use Rattle.text.specs.Inner.{Pushed}
-use Rattle.text.proofs.Holding.{held-part}
+use Rattle.text.specs.Text.{Held, part, held_answer}
+use Rattle.text.specs.Stream.{answer_most, held_with, held_after, held_text}
 
 either : {A B : Type 0} (t : Bool) (f : A → B) {x y : A} {u v : B} → u ≡ f x → v ≡ f y
     → cond t u v ≡ f (cond t x y)
@@ -57,18 +55,15 @@ unfolding held_text
 text-other h b e = rw (ne_eqb _ _ e)
 
 -- a run over a piece: the first i bytes were read, and `at` bytes written
-pub record Going (h : Held) (chunk out₀ out line : List ℕ) (len i at : ℕ) : Type 0 where
-  pub read : i ≤ length chunk
-  pub array : length line ≡ line_most
+pub record Going (h : Held) (chunk out₀ out : List ℕ) (s : Held) (i at : ℕ) : Type 0 where
   pub same : length out ≡ length out₀
-  pub held : held_in line len ≡ held_after h (take i chunk)
+  pub held : s ≡ held_after h (take i chunk)
   pub text : Written out₀ 0 (held_text h (take i chunk)) (length out₀) out at
 
 -- the same values by other names
-pub going-is : {h : Held} {chunk out₀ out line out' line' : List ℕ} {len i at len' at' : ℕ}
-    → out' ≡ out → line' ≡ line → len' ≡ len → at' ≡ at → Going h chunk out₀ out line len i at
-    → Going h chunk out₀ out' line' len' i at'
-going-is o l n a g = rw (o, l, n, a) g
+pub going-is : {h : Held} {chunk out₀ out out' : List ℕ} {s s' : Held} {i at at' : ℕ}
+    → out' ≡ out → s' ≡ s → at' ≡ at → Going h chunk out₀ out s i at → Going h chunk out₀ out' s' i at'
+going-is o n a g = rw (o, n, a) g
 
 pub starts-held : (h : Held) → h ≡ held_after h []
 unfolding held_after
@@ -79,22 +74,22 @@ unfolding held_text
 starts-text h out = written_none out 0 (length out)
 
 module _
-    {h : Held}
-    {chunk out₀ out line : List ℕ}
-    {len i at b : ℕ}
-    (g : Going h chunk out₀ out line len i at)
+    {h s : Held}
+    {chunk out₀ out : List ℕ}
+    {i at b : ℕ}
+    (g : Going h chunk out₀ out s i at)
     (k : i < length chunk)
     (e : get_or chunk i 0 ≡ b)
   where
     more : take (i + 1) chunk ≡ take i chunk ++ (b ∷ [])
     more = rw add-one (take-suc chunk i 0 k ∙ ap (λ (x : ℕ). take i chunk ++ (x ∷ [])) e)
 
-    after_more : held_after h (take (i + 1) chunk) ≡ held_after (held_in line len) (b ∷ [])
+    after_more : held_after h (take (i + 1) chunk) ≡ held_after s (b ∷ [])
     after_more =
         ap (held_after h) more ∙ after-append (take i chunk) (b ∷ []) h
         ∙ ap (λ (x : Held). held_after x (b ∷ [])) (sym g.held)
 
-    text-more : {x : List ℕ} → held_text (held_in line len) (b ∷ []) ≡ x
+    text-more : {x : List ℕ} → held_text s (b ∷ []) ≡ x
         → held_text h (take i chunk) ++ x ≡ held_text h (take (i + 1) chunk)
     text-more f =
         let e = ap (λ (x : Held). held_text x (b ∷ [])) (sym g.held) ∙ f in
@@ -103,28 +98,19 @@ module _
         ∙ ap (λ (x : List ℕ). held_text h (take i chunk) ++ x) e)
 
     pub going-answer : {last : List ℕ} {r : ℕ} → b ≡ 10 → at + answer_most ≤ length out
-        → Written out at (held_answer (held_in line len)) answer_most last r
-        → Going h chunk out₀ last line 0 (i + 1) r
+        → Written out at (held_answer s) answer_most last r
+        → Going h chunk out₀ last (part []) (i + 1) r
     going-answer {last} {r} n room w =
         let v = written-append g.text w in
-        let s : length (held_text h (take i chunk) ++ held_answer (held_in line len)) ≤ length out₀ =
+        let size : length (held_text h (take i chunk) ++ held_answer s) ≤ length out₀ =
         simp length-append (omega (arith, g.text.next, g.text.size, w.size, g.same)) in
         record {
-          read = omega arith;
-          array = g.array;
-          same = ap length w.is ∙ length-sets out at (held_answer (held_in line len)) ∙ g.same;
-          held = held-part line 0 (lit≤ tt) ∙ sym (after-newline _ b n) ∙ sym after_more;
-          text = written_is (text-more (text-newline _ b n)) (record { is = v.is; next = v.next; size = s });
+          same = ap length w.is ∙ length-sets out at (held_answer s) ∙ g.same;
+          held = sym (after-newline _ b n) ∙ sym after_more;
+          text = written_is (text-more (text-newline _ b n)) (record { is = v.is; next = v.next; size = size });
         }
 
-    pub going-push : {last : List ℕ} {r : ℕ} → (b ≡ 10 → ⊥) → Pushed line len b last r
-        → Going h chunk out₀ out last r (i + 1) at
-    going-push {last} {r} n p =
+    pub going-push : {t : Held} → (b ≡ 10 → ⊥) → t ≡ held_with s b → Going h chunk out₀ out t (i + 1) at
+    going-push n p =
         let t = sym (append-nil (held_text h (take i chunk))) ∙ text-more (text-other _ b n) in
-        record {
-          read = omega arith;
-          array = p.same;
-          same = g.same;
-          held = p.is ∙ sym (after-other _ b n) ∙ sym after_more;
-          text = written_is t g.text;
-        }
+        record { same = g.same; held = p ∙ sym (after-other _ b n) ∙ sym after_more; text = written_is t g.text }

@@ -2,21 +2,18 @@
 use mathlib.Core.Path.{◌≡◌, refl, sym, ap, ◌∙◌}
 use mathlib.Core.Bool.{Bool, true, false, cond}
 use mathlib.Core.List.{List, [], ◌∷◌, ◌++◌, append_assoc, append-nil}
-use Prim.Native.Nat.{ℕ, ◌+◌, ◌≤◌, ◌<◌}
+use Prim.Native.Nat.{ℕ}
 use native.Mathlib.Nat.{le_refl}
-use native.Mathlib.Decide.{dec_lt}
-use native.Mathlib.Omega.{arith}
-use lib.Dec.{ltb, eqb, lit≤}
-use lib.ListN.{length, take, drop}
-use lib.Seq.{sets-eq, take-append_seam, length-take-le}
-use Rattle.buffer.specs.Writing.{Written}
+use lib.Dec.{ltb, eqb}
+use lib.ListN.{length, take}
 use Rattle.text.specs.Figures.{header_text}
 use Rattle.buffer.specs.Parts.{start_with}
+use Rattle.buffer.proofs.WritingLaws.{written-take}
 use Rattle.text.specs.Text.{line_most, Held, part, too_long, held_of, held_answer, lines_of, answers_of, text_of}
-use Rattle.text.specs.Stream.{held_with, held_after, held_text, last_text, state_of, text_so_far, held_in, Stepped, Follows}
+use Rattle.text.specs.Stream.{held_with, held_after, held_text, last_text, state_of, text_so_far, state_held, Follows}
 use Rattle.text.specs.declared.Progress.{Progress}
-use Rattle.text.proofs.Holding.{held-part, held-long, with-of}
-use Rattle.text.proofs.Streaming.{after-append, text-append}
+use Rattle.text.proofs.Holding.{with-of}
+use Rattle.text.proofs.Streaming.{Going, after-append, text-append}
 
 -- l before the first line
 abbrev before : List ℕ → List (List ℕ) → List (List ℕ)
@@ -83,47 +80,28 @@ module _ (input more : List ℕ) where
   unfolding state_of
   state-more = sym (after-append input more (part []))
 
-  text-more : text_so_far (input ++ more) ≡ text_so_far input ++ held_text (state_of input) more
+  pub text-more : text_so_far (input ++ more) ≡ text_so_far input ++ held_text (state_of input) more
   unfolding state_of text_so_far
   text-more =
       ap (λ (x : List ℕ). header_text ++ x) (text-append input more (part []))
       ∙ sym (append_assoc header_text (held_text (part []) input) (held_text (held_after (part []) input) more))
 
--- what stands at the start of a buffer after a text was written there
-written-take : {out last text : List ℕ} {n r : ℕ} → n ≤ length out → Written out 0 text n last r → take r last ≡ text
-written-take {out} {last} {text} {n} {r} h w =
-    let e : r ≡ length text = omega (arith, w.next) in
-    (λ i. take (e i) (w.is i)) ∙ ap (take (length text)) (sets-eq text out 0 (omega (arith, w.size)))
-    ∙ take-append_seam text (drop (0 + length text) out)
-
-last-part : (l : List ℕ) → 0 < length l → held_answer (part l) ≡ last_text (part l)
-unfolding last_text
-last-part [] h = absurd (omega arith)
-last-part (b ∷ l) h = refl
-
-last-long : held_answer too_long ≡ last_text too_long
-unfolding last_text
-last-long = refl
-
 -- a line that has bytes is answered at the end, and one that has none is not
-pub last-held : (l : List ℕ) (n : ℕ) → length l ≡ line_most → (n ≡ 0 → ⊥)
-    → held_answer (held_in l n) ≡ last_text (held_in l n)
-last-held l n e h = by_length (dec_lt line_most n)
-  where
-    by_length : Dec (line_most < n) → held_answer (held_in l n) ≡ last_text (held_in l n)
-    by_length (yes k) = rw (held-long l n k) last-long
-    by_length (no k) =
-        let z : 0 < n = omega arith in
-        rw (held-part l n (omega arith)) (last-part (take n l) (omega (arith, length-take-le n l (omega arith))))
-
-pub last_empty : (l : List ℕ) (n : ℕ) → n ≡ 0 → last_text (held_in l n) ≡ []
+pub last-held : (h : Held) → (h ≡ part [] → ⊥) → held_answer h ≡ last_text h
 unfolding last_text
-last_empty l n e = rw (e, held-part l 0 (lit≤ tt))
+last-held (part []) e = absurd (e refl)
+last-held (part (b ∷ l)) e = refl
+last-held too_long e = refl
 
-pub follows : {h : Held} {chunk out last : List ℕ} {r : Progress} → Stepped h chunk out last r → (input : List ℕ)
-    → h ≡ state_of input → Follows input (take r.read chunk) last r
-follows {h} {chunk} {out} {last} {r} s input e =
-    let more : List ℕ = take r.read chunk in
+pub last_empty : [] ≡ last_text (part [])
+unfolding last_text
+last_empty = refl
+
+-- a run over a piece that read n bytes
+pub follows : {h : Held} {chunk out last : List ℕ} {n : ℕ} {r : Progress} → Going h chunk out last (state_held r.state) n r.written
+    → (input : List ℕ) → h ≡ state_of input → Follows input (take n chunk) last r
+follows {h} {chunk} {out} {last} {n} {r} s input e =
+    let more : List ℕ = take n chunk in
     let t : held_text (state_of input) more ≡ take r.written last =
     ap (λ (x : Held). held_text x more) (sym e) ∙ sym (written-take (le_refl (length out)) s.text) in
     record {
@@ -131,7 +109,7 @@ follows {h} {chunk} {out} {last} {r} s input e =
       text = text-more input more ∙ ap (λ (x : List ℕ). text_so_far input ++ x) t;
     }
 
-pub ends : {h : Held} {out last : List ℕ} {n r : ℕ} → n ≤ length out → Written out 0 (last_text h) n last r
-    → (input : List ℕ) → h ≡ state_of input → text_of input ≡ text_so_far input ++ take r last
-ends k w input e =
-    text-whole input ∙ ap (λ (x : List ℕ). text_so_far input ++ x) (ap last_text (sym e) ∙ sym (written-take k w))
+pub ends : {h : Held} {answer : List ℕ} → answer ≡ last_text h → (input : List ℕ) → h ≡ state_of input
+    → text_of input ≡ text_so_far input ++ answer
+ends w input e =
+    text-whole input ∙ ap (λ (x : List ℕ). text_so_far input ++ x) (ap last_text (sym e) ∙ sym w)

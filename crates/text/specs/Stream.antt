@@ -1,5 +1,5 @@
 -- The input in pieces: what a run over it carries from piece to piece, and what each piece writes.
-use Rattle.std.specs.Prelude.{◌≡◌, cond, List, [], ◌∷◌, ◌++◌, ℕ, ◌+◌, ◌≤◌, ◌<◌, ltb, eqb, length, take}
+use Rattle.std.specs.Prelude.{◌≡◌, cond, List, [], ◌∷◌, ◌++◌, ℕ, ◌+◌, ◌≤◌, ◌<◌, ltb, eqb, length, take, Option, Some, None}
 use Rattle.buffer.specs.Writing.{Written}
 use Rattle.text.specs.Figures.{header_text}
 use Rattle.text.specs.Text.{line_most, Held, part, too_long, held_of, held_answer}
@@ -39,8 +39,9 @@ unfoldable pub text_so_far : List ℕ → List ℕ
 text_so_far input = header_text ++ held_text (part []) input
 
 -- the first n bytes of an array, or more than a line has
-unfoldable pub held_in : List ℕ → ℕ → Held
-held_in l n = cond (ltb line_most n) too_long (part (take n l))
+abbrev pub held_in : List ℕ → Option ℕ → Held
+held_in l (Some n) = cond (ltb line_most n) too_long (part (take n l))
+held_in l None = too_long
 
 abbrev pub state_held : State → Held
 state_held s = held_in s.line s.len

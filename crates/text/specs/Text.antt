@@ -2,7 +2,7 @@
 use Rattle.std.specs.Prelude.{cond, List, [], ◌∷◌, ◌++◌, ℕ, ltb, eqb, length, ℤ, pos}
 use Rattle.buffer.specs.Parts.{start_with}
 use Rattle.sample.specs.Sample.{Sample, Colour, colour_refusal, colour_sample}
-use Rattle.sample.specs.Refusals.{first_of}
+use Rattle.refusal.specs.Refusals.{first_of}
 use Rattle.sample.specs.declared.FixedWeights.{FixedWeights}
 use Rattle.difference.specs.Cie76.{cie76_of}
 use Rattle.difference.specs.Cie94.{cie94_of}

@@ -1,17 +1,19 @@
 -- `buffer::put_bytes` meets its contract. Assumes nothing.
 use mathlib.Core.Path.{refl, ◌∙◌}
+use Rattle.std.proofs.Common.{append_assoc}
+use native.Mathlib.Nat.{le_refl}
 use native.Mathlib.Omega.{arith}
-use lib.ListN.{length-set}
-use Rattle.buffer.proofs.WritingLaws.{bytes-turn, bytes-written}
+use Rattle.std.proofs.lemmas.List.Edits.{paste_all, sets-eq}
+use Rattle.std.proofs.lemmas.Slice.{put_mid-paste}
 use Rattle.buffer.proofs.put_bytes.Goals as goal
-
-pub loop-i-init : goal.loop-i-init
-loop-i-init c = (omega arith, refl, omega arith, refl)
-
-pub loop-i-preserved : goal.loop-i-preserved
-loop-i-preserved c =
-    (omega arith, simp length-set c.loop-i.invariant.1, omega arith, bytes-turn _ _ c.loop-i.end c.loop-i.i c.loop-i-test.true ∙ c.loop-i.invariant.3)
 
 pub returns : goal.returns
 returns c =
-    bytes-written _ c.loop-i.i c.loop-i.invariant.2 (omega arith) c.loop-i.invariant.3
+    let pasted = put_mid-paste c.args.at _ c.args.out.now _ c.args.text.now _ c.copy_from_slice.ensures.after (omega arith) refl in
+    record {
+      is =
+          rw (sets-eq c.args.text.now c.args.out.now c.args.at c.requires, append_assoc)
+          (pasted ∙ paste_all c.args.out.now c.args.at c.args.text.now _ refl);
+      next = refl;
+      size = le_refl _;
+    }

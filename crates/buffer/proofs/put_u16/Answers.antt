@@ -1,9 +1,7 @@
 -- `buffer::put_u16` meets its contract. Assumes nothing.
-use Rattle.buffer.specs.Numbers.{bytes_of}
-use Rattle.buffer.proofs.WritingLaws.{written-append}
+use Rattle.buffer.proofs.NumberLaws.{le-bytes-two}
+use Rattle.buffer.proofs.WritingLaws.{written_is}
 use Rattle.buffer.proofs.put_u16.Goals as goal
 
 pub returns : goal.returns
-unfolding bytes_of
-returns c =
-    written-append c.put_byte-next.ensures c.put_byte.ensures
+returns c = written_is (le-bytes-two c.args.n) (rw c.to_le_bytes.ensures at c.put_bytes.ensures)

@@ -4,9 +4,6 @@ use native.Mathlib.Omega.{arith}
 use Rattle.chroma.specs.Chroma.{primed_a}
 use Rattle.chroma.proofs.primed_a.Goals as goal
 
-pub scaled-requires : goal.scaled-requires
-scaled-requires c = omega (arith, mul-le-mul c.requires.a_bound (sub-le 3000000000 c.args.z))
-
 pub returns : goal.returns
 unfolding primed_a
 returns c = record { is = cc; size = omega (arith, mul-le-mul c.requires.a_bound (sub-le 3000000000 c.args.z)) }

@@ -14,9 +14,6 @@ hypotenuse-requires c = omega (arith, power_le _ c.if-x-le-ONE.true)
 pub nonzero_div-result : goal.nonzero_div-result
 nonzero_div-result c = omega (arith, hypotenuse-ge-one c.power-p.result)
 
-pub power-requires : goal.power-requires
-power-requires c = inverse-le c.if-x-le-ONE.false
-
 pub hypotenuse-requires-else-x-le-ONE : goal.hypotenuse-requires-else-x-le-ONE
 hypotenuse-requires-else-x-le-ONE c = omega (arith, power_le _ (inverse-le c.if-x-le-ONE.false))
 

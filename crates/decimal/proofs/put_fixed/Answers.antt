@@ -12,21 +12,15 @@ counted : (n places p k : ℕ) → n < 2 ^ 64 → places ≤ 6 → p ≡ 10 ^ pl
 counted n places p k fits few e h = omega (arith, h, whole-count fits few e)
 
 pub nonzero_div-whole : goal.nonzero_div-whole
-nonzero_div-whole c = power-positive _ c.power_of_ten.ensures
-
-pub put_last_digits-point-requires : goal.put_last_digits-point-requires
-put_last_digits-point-requires c = omega (arith, counted c.args.v.n c.args.places _ _ (omega arith) c.requires.places_bound c.power_of_ten.ensures c.digit_count.ensures)
-
-pub put_byte-decimals-requires : goal.put_byte-decimals-requires
-put_byte-decimals-requires c = omega (arith, counted c.args.v.n c.args.places _ _ (omega arith) c.requires.places_bound c.power_of_ten.ensures c.digit_count.ensures)
+nonzero_div-whole c = power-positive _ c.pow.ensures
 
 pub put_last_digits-last-requires : goal.put_last_digits-last-requires
-put_last_digits-last-requires c = omega (arith, counted c.args.v.n c.args.places _ _ (omega arith) c.requires.places_bound c.power_of_ten.ensures c.digit_count.ensures)
+put_last_digits-last-requires c = omega (arith, counted c.args.v.n c.args.places _ _ (omega arith) c.requires.places_bound c.pow.ensures c.digit_count.ensures.is)
 
 pub put_byte-requires : goal.put_byte-requires
-put_byte-requires c = omega (arith, counted c.args.v.n c.args.places _ _ (omega arith) c.requires.places_bound c.power_of_ten.ensures c.digit_count.ensures)
+put_byte-requires c = omega (arith, counted c.args.v.n c.args.places _ _ (omega arith) c.requires.places_bound c.pow.ensures c.digit_count.ensures.is)
 
 pub returns : goal.returns
 returns c =
-    fixed-written _ _ _ _ (int-size _) c.power_of_ten.ensures c.digit_count.ensures (counted c.args.v.n c.args.places _ _ (omega arith) c.requires.places_bound c.power_of_ten.ensures c.digit_count.ensures) c.put_minus-first.ensures
+    fixed-written _ _ _ _ (int-size _) c.pow.ensures c.digit_count.ensures.is (counted c.args.v.n c.args.places _ _ (omega arith) c.requires.places_bound c.pow.ensures c.digit_count.ensures.is) c.put_minus-first.ensures
     c.put_last_digits-point.ensures c.put_byte-decimals.ensures c.put_last_digits-last.ensures c.put_byte.ensures

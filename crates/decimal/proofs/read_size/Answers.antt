@@ -1,67 +1,43 @@
 -- `decimal::read_size` meets its contract. Assumes nothing.
-use mathlib.Core.Path.{◌≡◌, ap, ◌∙◌}
-use mathlib.Core.List.{List}
-use Prim.Native.Nat.{ℕ, ◌+◌, ◌-◌, ◌*◌, ◌^◌, ◌<◌}
+use mathlib.Core.Path.{ap, ◌∙◌}
+use Prim.Native.Nat.{ℕ, ◌+◌, ◌*◌, ◌<◌}
 use native.Mathlib.Nat.{add-zero}
 use native.Mathlib.Omega.{arith}
-use lib.ListN.{drop}
 use Rattle.signed.specs.Value.{with_sign}
 use Rattle.signed.specs.Inner.{int}
-use Rattle.decimal.specs.Reading.{found, Run}
-use Rattle.decimal.specs.Inner.{DigitsRead}
-use Rattle.decimal.specs.declared.Digits.{Digits}
+use Rattle.decimal.specs.Reading.{found}
+use Rattle.decimal.specs.Inner.{decimal_found}
 use Rattle.decimal.proofs.ReadingLaws.{digits-below, fraction-below, fraction-absent, fraction-empty, fraction-some, whole-empty, whole-some}
 use Rattle.decimal.proofs.read_size.Goals as goal
 
-whole : {s : List ℕ} {x : Run} {d : Digits} → DigitsRead s 3 x d → d.value < 1000
-whole h = digits-below 3 h.small h.few
+pub returns-in_err-whole-clause-value : goal.returns-in_err-whole-clause-value
+returns-in_err-whole-clause-value c =
+    ap decimal_found c.from_residual.ensures ∙ whole-empty _ c.args.neg c.in_err-whole.ensures
 
-fraction : {s : List ℕ} {x : Run} {d : Digits} (p : ℕ) → DigitsRead s 4 x d → p ≡ 10 ^ (4 - d.count) → d.value * p < 10000
-fraction p h e = rw e (fraction-below _ _ h.small h.few)
-
-pub returns-then-w-eq0 : goal.returns-then-w-eq0
-returns-then-w-eq0 c =
-    record { is = whole-empty _ c.args.at _ c.read_digits-w.ensures c.if-w-eq0.true; within = tt }
-
-pub overflow_add-w : goal.overflow_add-w
-overflow_add-w c = omega (arith, c.starts.ensures.within c.if-starts.true)
-
-pub returns-then-f-eq0 : goal.returns-then-f-eq0
-returns-then-f-eq0 c =
-    let z = fraction-empty _ _ c.starts.ensures c.if-starts.true c.read_digits-f.ensures c.if-f-eq0.true in
-    record { is = whole-some _ c.args.at _ c.read_digits-w.ensures c.if-w-eq0.false z; within = tt }
-
-pub overflow_mul-n : goal.overflow_mul-n
-overflow_mul-n c = omega (arith, whole c.read_digits-w.ensures)
-
-pub overflow_mul-n-then-starts : goal.overflow_mul-n-then-starts
-overflow_mul-n-then-starts c = omega (arith, fraction _ c.read_digits-f.ensures c.power_of_ten.ensures)
-
-pub overflow_add-n : goal.overflow_add-n
-overflow_add-n c = omega (arith, whole c.read_digits-w.ensures, fraction _ c.read_digits-f.ensures c.power_of_ten.ensures)
-
-pub returns-then-starts : goal.returns-then-starts
+pub returns-in_default-clause-value : goal.returns-in_default-clause-value
 unfolding int
-returns-then-starts c =
-    let rest = drop c.read_digits-f.result.at c.args.s.now in
-    let z = fraction-some _ _ c.starts.ensures c.if-starts.true c.read_digits-f.ensures c.if-f-eq0.false in
-    record {
-      is =
-          ap
-          (λ (q : ℕ). found (with_sign c.args.neg (c.read_digits-w.result.value * 10000 + c.read_digits-f.result.value * q)) rest)
-          c.power_of_ten.ensures
-          ∙ whole-some _ c.args.at _ c.read_digits-w.ensures c.if-w-eq0.false z;
-      within = (omega (arith, whole c.read_digits-w.ensures, fraction _ c.read_digits-f.ensures c.power_of_ten.ensures), c.read_digits-f.ensures.within (omega arith));
-    }
+returns-in_default-clause-value c =
+    let z = fraction-absent _ c.in_default.ensures in
+    rw add-zero at (whole-some c.args.s.now c.args.neg c.in_ok-whole.whole c.in_ok-whole.ensures.0.is c.in_ok-whole.ensures.1 z)
 
-pub overflow_mul-n-2 : goal.overflow_mul-n-2
-overflow_mul-n-2 c = omega (arith, whole c.read_digits-w.ensures)
+pub returns-in_err-part-clause-value : goal.returns-in_err-part-clause-value
+returns-in_err-part-clause-value c =
+    let z = fraction-empty _ c.in-Some.ensures.0 c.in-Some.ensures.1 c.in_err-part.ensures in
+    ap decimal_found c.from_residual-in_err-part.ensures
+    ∙ whole-some c.args.s.now c.args.neg c.in_ok-whole.whole c.in_ok-whole.ensures.0.is c.in_ok-whole.ensures.1 z
 
-pub returns : goal.returns
+pub returns-clause-value : goal.returns-clause-value
 unfolding int
-returns c =
-    let z = fraction-absent _ _ c.starts.ensures c.if-starts.false in
-    record {
-      is = rw add-zero at (whole-some c.args.s.now c.args.at c.args.neg c.read_digits-w.ensures c.if-w-eq0.false z);
-      within = (omega (arith, whole c.read_digits-w.ensures), c.read_digits-w.ensures.within (omega arith));
-    }
+returns-clause-value c =
+    let z = fraction-some _ c.in-Some.ensures.0 c.in-Some.ensures.1 c.in_ok-part.part c.in_ok-part.ensures.0.is c.in_ok-part.ensures.1 in
+    ap
+    (λ (p : ℕ). found (with_sign c.args.neg (c.in_ok-whole.whole.value * 10000 + c.in_ok-part.part.value * p)) c.in_ok-part.part.rest.now)
+    c.pow.ensures
+    ∙ whole-some c.args.s.now c.args.neg c.in_ok-whole.whole c.in_ok-whole.ensures.0.is c.in_ok-whole.ensures.1 z
+
+pub returns-clause-size : goal.returns-clause-size
+returns-clause-size c =
+    let whole = c.in_ok-whole.ensures.0 in
+    let part = c.in_ok-part.ensures.0 in
+    let f : c.in_ok-part.part.value * c.pow.result < 10000 = rw c.pow.ensures (fraction-below _ _ part.small part.few) in
+    omega (arith, digits-below 3 whole.small whole.few)

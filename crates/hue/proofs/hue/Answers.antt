@@ -6,7 +6,7 @@ use mathlib.Core.Bool.{Bool, false, cond}
 use Prim.Native.Nat.{ℕ, zero, suc, ◌+◌, ◌*◌, ◌%◌, ◌≤◌, ◌<◌}
 use native.Mathlib.Nat.{le_trans, le_of_eq}
 use native.Mathlib.Omega.{arith}
-use borrow.Author.Tests.{eq-eqb, ne_eqb}
+use borrow.Author.Tests.{ne_eqb, eqb-false}
 use lib.Dec.{eqb}
 use lib.IntN.{ℤ}
 use Rattle.signed.specs.declared.Int.{Int}
@@ -14,7 +14,14 @@ use Rattle.signed.specs.Inner.{int}
 use Rattle.signed.proofs.SignedLaws.{int-size}
 use Rattle.sine.proofs.SineLaws.{cond-le}
 use Rattle.hue.specs.Hue.{grey, quadrant_of, turned_x, turned_y, angle_of, hue_in, hue_of}
-use Rattle.hue.proofs.HueLaws.{quadrant-le, quadrant-grey, quadrant_of-none, hue-grey, hue-coloured}
+use Rattle.hue.proofs.HueLaws.{quadrant-grey, quadrant_of-none, hue-grey, hue-coloured}
+use Rattle.hue.proofs.Numbers.{tag-number, same-number}
+use Rattle.hue.specs.contracts.Quadrant.{the_type}
+use Rattle.hue.specs.declared.Quadrant.{Quadrant}
+use Rattle.hue.specs.declared.Quadrant.TheVariants.{Grey}
+use Rattle.hue.specs.Inner.{number_of}
+use denote.Enum.Bare.{sameb}
+use denote.Enum.Declared.{tag_of}
 use Rattle.hue.proofs.hue.Goals as goal
 
 not-grey : (a b : ℤ) {q : ℕ} → q ≡ quadrant_of a b → (q ≡ 4 → ⊥) → grey a b ≡ false
@@ -35,27 +42,28 @@ chroma-pos a b zero e h k l =
     absurd (h (e ∙ quadrant_of-none (int a) (int b) (omega (arith, int-size a)) (omega (arith, int-size b))))
 chroma-pos a b (suc n) e h k l = omega arith
 
-pub returns-then-q-eq-GREY : goal.returns-then-q-eq-GREY
-returns-then-q-eq-GREY c = sym (hue-grey _ _ _ (quadrant-grey _ _ ∙ eq-eqb _ _ (sym c.quadrant-q.ensures ∙ c.if-q-eq-GREY.true)))
+coloured : (q : Quadrant) {b : Bool} → b ≡ sameb the_type q Grey → b ≡ false → number_of q ≡ 4 → ⊥
+coloured q e f = eqb-false (number_of q) 4 (sym (same-number q Grey) ∙ sym e ∙ f)
 
-pub angle-requires-clause-q_bound : goal.angle-requires-clause-q_bound
-angle-requires-clause-q_bound c = omega (arith, quadrant-le (int c.args.a) (int c.args.b))
+pub returns-then-eq : goal.returns-then-eq
+returns-then-eq c =
+    sym (hue-grey _ _ _ (quadrant-grey _ _ ∙ rw (← c.of-q.ensures) (sym (same-number _ Grey) ∙ sym c.eq.ensures ∙ c.if-eq.true)))
 
-pub angle-requires-clause-xy_le_chroma : goal.angle-requires-clause-xy_le_chroma
-angle-requires-clause-xy_le_chroma c =
-    let even : Bool = eqb (c.quadrant-q.result % 2) 0 in (
-      le_trans (le_of_eq c.pick-x.ensures) (cond-le even c.requires.ab_le_chroma.0 c.requires.ab_le_chroma.1),
-      le_trans (le_of_eq c.pick-y.ensures) (cond-le even c.requires.ab_le_chroma.1 c.requires.ab_le_chroma.0),
-    )
-
-pub angle-requires-clause-chroma_bounds : goal.angle-requires-clause-chroma_bounds
-angle-requires-clause-chroma_bounds c =
-    let positive : 0 < c.args.chroma =
-    chroma-pos c.args.a c.args.b c.args.chroma c.quadrant-q.ensures c.if-q-eq-GREY.false
-    c.requires.ab_le_chroma.0 c.requires.ab_le_chroma.1 in
-    (positive, c.requires.chroma_bound)
+pub invariant_of-turned : goal.invariant_of-turned
+invariant_of-turned c =
+    let even : Bool = eqb (tag_of the_type c.of-q.result % 2) 0 in
+    let within = c.requires.ab_le_chroma in
+    let positive : 0 < c.args.p.chroma =
+    chroma-pos c.args.p.a c.args.p.b c.args.p.chroma c.of-q.ensures (coloured _ c.eq.ensures c.if-eq.false) within.0 within.1 in
+    record {
+      within = (
+        le_trans (le_of_eq c.pick.ensures) (cond-le even within.0 within.1),
+        le_trans (le_of_eq c.pick-2.ensures) (cond-le even within.1 within.0),
+      );
+      coloured = (positive, c.requires.chroma_bound);
+    }
 
 pub returns : goal.returns
 returns c =
-    hue-turned _ _ _ _ c.quadrant-q.ensures c.if-q-eq-GREY.false refl
-    (c.angle.ensures ∙ (λ i. 90000000 * c.quadrant-q.result + angle_of (c.pick-x.ensures i) (c.pick-y.ensures i) c.args.chroma))
+    hue-turned _ _ _ _ c.of-q.ensures (coloured _ c.eq.ensures c.if-eq.false) (rw tag-number refl)
+    (c.angle.ensures ∙ (λ i. 90000000 * number_of c.of-q.result + angle_of (c.pick.ensures i) (c.pick-2.ensures i) c.args.p.chroma))

@@ -1,13 +1,18 @@
 -- `hue_difference::hue_difference` meets its contract: the size is within its bound, and carries the sign.
 -- Assumes nothing.
-use mathlib.Core.Path.{◌∙◌}
+use mathlib.Core.Path.{◌≡◌, refl, sym, ap, ◌∙◌}
+use mathlib.Core.Bool.{Bool, false, true≢false}
 use Prim.Native.Nat.{ℕ, ◌≤◌}
-use native.Mathlib.Omega.{arith}
 use Rattle.signed.specs.declared.Int.{Int}
 use Rattle.signed.specs.Inner.{int}
 use Rattle.signed.proofs.SignedLaws.{int-size}
-use Rattle.hue_difference.specs.HueDifference.{hue_size, hue_difference_of}
-use Rattle.hue_difference.specs.Inner.{Primed}
+use lib.Dec.{eqb}
+use Rattle.std.specs.Ordering.{ordering_index}
+use Rattle.std.specs.declared.cmp.Ordering.{Ordering}
+use Rattle.std.specs.declared.cmp.Ordering.TheVariants.{Less, Equal, Greater}
+use Rattle.signed.specs.Value.{with_sign}
+use Rattle.hue_difference.specs.HueDifference.{hue_size}
+use Rattle.hue_difference.specs.Inner.{Primed, with_order}
 use Rattle.hue_difference.proofs.Sizes.{hue-size-le}
 use Rattle.hue_difference.proofs.hue_difference.Goals as goal
 
@@ -18,17 +23,18 @@ size-le :
 size-le a1 b1 c1 a2 b2 c2 s t =
     hue-size-le (int a1) (int b1) c1 (int a2) (int b2) c2 (rw (int-size a1, int-size b1) s) (rw (int-size a2, int-size b2) t)
 
-pub returns-then-none : goal.returns-then-none
-unfolding hue_difference_of
-returns-then-none c = record { is = c.natural.ensures.is ∙ rw c.if-none.true; size = omega arith }
+unequal : (o : Ordering) {b : Bool} → b ≡ eqb (ordering_index o) 1 → b ≡ false → o ≡ Equal → ⊥
+unequal o e f g = true≢false (sym (e ∙ ap (λ (p : Ordering). eqb (ordering_index p) 1) g) ∙ f)
 
-pub hue_size-requires-clause-not_grey : goal.hue_size-requires-clause-not_grey
-hue_size-requires-clause-not_grey c = c.requires.not_grey c.if-none.false
+signed-by : (o : Ordering) (n : ℕ) → (o ≡ Equal → ⊥) → with_sign (eqb (ordering_index o) 0) n ≡ with_order o n
+signed-by Less n h = refl
+signed-by Equal n h = absurd (h refl)
+signed-by Greater n h = refl
 
 pub returns : goal.returns
-unfolding hue_difference_of int
+unfolding int
 returns c =
     record {
-      is = rw (c.if-none.false, c.hue_size.ensures);
-      size = rw c.hue_size.ensures (size-le c.args.a1 c.args.b1 _ c.args.a2 c.args.b2 _ c.requires.first_primed c.requires.second_primed);
+      is = rw (c.eq-2.ensures, c.hue_size.ensures) (signed-by _ _ (unequal _ c.eq.ensures c.if-eq.false));
+      size = rw c.hue_size.ensures (size-le c.args.p.a c.args.p.b _ c.args.q.a c.args.q.b _ c.requires.first_primed c.requires.second_primed);
     }

@@ -2,18 +2,15 @@
 -- Assumes nothing.
 use mathlib.Core.Path.{◌≡◌, sym, ◌∙◌}
 use mathlib.Core.Bool.{true, false}
-use Prim.Native.Nat.{ℕ, ◌+◌, ◌*◌, ◌/◌, ◌^◌, ◌≤◌, ◌<◌}
-use native.Mathlib.Nat.{mul-le-mul}
-use native.Mathlib.Omega.{arith}
+use Prim.Native.Nat.{ℕ, ◌+◌, ◌*◌, ◌/◌}
 use lib.IntN.{ℤ, pos}
 use lib.Signed.{lt_z}
 use Rattle.isqrt.specs.Root.{root_of}
-use Rattle.isqrt.proofs.RootLaws.{root-largest, root-lt-pow}
 use Rattle.signed.specs.declared.Int.{Int}
 use Rattle.signed.specs.Inner.{int}
 use Rattle.signed.proofs.SignedLaws.{int-size}
 use Rattle.hue_difference.specs.HueDifference.{cross_of, dot_of, hue_size}
-use Rattle.hue_difference.proofs.Sizes.{plus-size, minus-size, products-le, dot-sizes, cross-sizes}
+use Rattle.hue_difference.proofs.Sizes.{plus-size, minus-size}
 use Rattle.hue_difference.proofs.hue_size.Goals as goal
 
 module _ (a1 b1 : ℤ) (c1 : ℕ) (a2 b2 : ℤ) (c2 : ℕ) (d : Int) (m : ℕ) (e : int d ≡ dot_of a1 b1 a2 b2) (r : m ≡ root_of ((c1 * c2 + d.n) / 2)) where
@@ -25,36 +22,10 @@ module _ (a1 b1 : ℤ) (c1 : ℕ) (a2 b2 : ℤ) (c2 : ℕ) (d : Int) (m : ℕ) (
   unfolding hue_size
   size_above x f h = rw (r, ← e, ← f, h, plus-size (c1 * c2) (int d) h, int-size d, int-size x)
 
-pub dot-d-requires : goal.dot-d-requires
-dot-d-requires c = omega (arith, dot-sizes c.requires.first_primed c.requires.second_primed)
-
-pub overflow_mul-c1 : goal.overflow_mul-c1
-overflow_mul-c1 c = omega (arith, products-le c.requires.first_primed c.requires.second_primed)
-
-pub overflow_add-c1 : goal.overflow_add-c1
-overflow_add-c1 c =
-    omega (arith, products-le c.requires.first_primed c.requires.second_primed, dot-sizes c.requires.first_primed c.requires.second_primed, c.dot-d.ensures.size)
-
-pub overflow_mul-result : goal.overflow_mul-result
-overflow_mul-result c =
-    let h : (c.args.c1 * c.args.c2 + c.dot-d.result.n) / 2 < 2 ^ 64 =
-    omega (arith, products-le c.requires.first_primed c.requires.second_primed, dot-sizes c.requires.first_primed c.requires.second_primed, c.dot-d.ensures.size) in
-    omega (arith, root-lt-pow _ h, c.isqrt-root.ensures.is)
-
 pub returns-then-is_negative : goal.returns-then-is_negative
 returns-then-is_negative c =
     size_below _ _ _ _ _ _ _ _ c.dot-d.ensures.is c.isqrt-root.ensures.is
     (sym c.is_negative.ensures ∙ c.if-is_negative.true)
-
-pub cross-x-requires : goal.cross-x-requires
-cross-x-requires c =
-    omega (arith, cross-sizes c.requires.first_primed c.requires.second_primed)
-
-pub nonzero_div-result : goal.nonzero_div-result
-nonzero_div-result c =
-    let n = c.args.c1 * c.args.c2 + c.dot-d.result.n in
-    let h : 1 * 1 ≤ n / 2 = omega (arith, mul-le-mul c.requires.not_grey.0 c.requires.not_grey.1) in
-    omega (arith, root-largest (n / 2) 1 h, c.isqrt-root.ensures.is)
 
 pub returns : goal.returns
 returns c =

@@ -2,7 +2,7 @@
 -- The measure is the number of bits left. Assumes nothing.
 use mathlib.Core.Path.{◌≡◌, sym, ap, ◌∙◌}
 use Prim.Native.Nat.{ℕ, zero, suc, ◌+◌, ◌-◌, ◌*◌, ◌%◌, ◌^◌, ◌≤◌, ◌<◌}
-use native.Mathlib.Nat.{mul-le-mul, one-mul, two-pow-succ}
+use native.Mathlib.Nat.{one-mul, two-pow-succ}
 use native.Mathlib.Omega.{arith}
 use lib.Dec.{lit<}
 use lib.Pow.{pow_pos, pow_mono, pow-add, shl_exact}
@@ -55,18 +55,6 @@ found (suc k) h none = absurd (omega arith)
 
 pub loop-left-init : goal.loop-left-init
 loop-left-init c = starts c.requires _ (omega arith)
-
-pub overflow_add-tried : goal.overflow_add-tried
-overflow_add-tried c = omega (arith, tried-small c.loop-left.invariant (omega arith))
-
-pub overflow_mul-tried : goal.overflow_mul-tried
-overflow_mul-tried c = let t = tried-small c.loop-left.invariant (omega arith) in omega (arith, mul-le-mul t t)
-
-pub loop-left-preserved-then-tried-n : goal.loop-left-preserved-then-tried-n
-loop-left-preserved-then-tried-n c = taken c.loop-left.invariant (omega arith) (omega arith)
-
-pub loop-left-preserved : goal.loop-left-preserved
-loop-left-preserved c = left_out c.loop-left.invariant (omega arith) (omega arith)
 
 pub returns : goal.returns
 returns c = found _ c.loop-left.invariant (omega arith)

@@ -10,6 +10,3 @@ pub record Between (n bits root left : ℕ) : Type 0 where
 
 abbrev pub invariant-loop-left : goal.invariant-loop-left
 invariant-loop-left l = Between l.n l.bits l.root l.left
-
-abbrev pub decreases-loop-left : goal.decreases-loop-left
-decreases-loop-left l = l.left

@@ -5,7 +5,7 @@ use native.Mathlib.Decide.{dec_le}
 use native.Mathlib.Omega.{arith}
 use lib.Bits.{bit_or, or_add_and, and_mask}
 use lib.Pow.{pow_mono, pow-lt}
-use lib.Count.{count_leading_zeros, leading_le, leading_top}
+use lib.Count.{count_leading_zeros, leading_top}
 use Rattle.isqrt.specs.Inner.{RootBits}
 use Rattle.isqrt.proofs.root_bits.Goals as goal
 
@@ -32,9 +32,6 @@ root-bits {n} {z} {j} h r half =
         either : Dec (j ≤ 2 * k) → r ≤ k + 1
         either (yes g) = omega (arith, half)
         either (no g) = absurd (omega (arith, h.low, pow-lt {i = 2 * k} {j = j} (omega (arith, g))))
-
-pub overflow_sub-result : goal.overflow_sub-result
-overflow_sub-result c = omega (arith, leading_le 64 (bit_or c.args.n 1))
 
 pub returns : goal.returns
 returns c =

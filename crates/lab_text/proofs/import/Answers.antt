@@ -1,49 +1,37 @@
 -- `lab_text::import` meets its contract. Assumes nothing.
-use mathlib.Core.Path.{◌≡◌, refl, sym, ◌∙◌}
+use mathlib.Core.Path.{◌≡◌, sym}
 use mathlib.Core.List.{List}
 use Prim.Native.Nat.{ℕ}
-use lib.IntN.{ℤ}
-use Rattle.sample.specs.Refusals.{first_of}
-use Rattle.deck_file.specs.Refusals.{room_refusal}
+use native.Mathlib.Omega.{arith}
+use lib.ListN.{length, take}
+use lib.Seq.{length-take-le}
+use Rattle.std.proofs.lemmas.Result.{err_from_is_err_and}
+use Rattle.refusal.proofs.RefusalLaws.{not-zero}
 use Rattle.lab_text.specs.declared.LabDeck.{LabDeck}
-use Rattle.lab_text.specs.Imports.{lent, columns_fit, import_refusal, IsLabDeck}
-use Rattle.lab_text.proofs.ImportLaws.{columns-refused-by, room, imports-refused, imports-done}
+use Rattle.lab_text.specs.Imports.{IsLabDeck}
+use Rattle.lab_text.proofs.ImportLaws.{columns-by-text, columns-by_room, imports-refused, imports-done}
 use Rattle.lab_text.proofs.import.Goals as goal
 
--- where none of the refusals applies, the import is not refused
-unrefused : (text code : List ℕ) (l a b : List ℤ) {d : LabDeck} {k m : ℕ} → IsLabDeck text d
-    → k ≡ room_refusal (columns_fit (lent code l a b) d.count) → m ≡ first_of d.refusal k → m ≡ 0
-    → import_refusal text (lent code l a b) ≡ 0
-unrefused text code l a b is e f none = sym (columns-refused-by text code l a b is e f) ∙ none
+-- as many swatches as the deck counts
+taken : {text : List ℕ} {d : LabDeck} → IsLabDeck text d → length (take d.count d.swatches) ≡ d.count
+taken {d = d} is = length-take-le d.count d.swatches (omega (arith, is.most, is.size))
 
-pub returns-then-refusal-ne0-clause-imports : goal.returns-then-refusal-ne0-clause-imports
-returns-then-refusal-ne0-clause-imports c =
-    imports-refused _ _ _ _ _
-    (columns-refused-by _ _ _ _ _ c.read-d.ensures c.room_refusal.ensures c.first_of-refusal.ensures) c.if-refusal-ne0.true
+pub returns-in_err-deck-clause-imports : goal.returns-in_err-deck-clause-imports
+returns-in_err-deck-clause-imports c =
+    let p = err_from_is_err_and c.from_residual.result c.from_residual.ensures.1 in
+    rw (p.1, p.2) (imports-refused _ _ _ _ _ (columns-by-text _ _ _ _ _ _ c.in_err-deck.ensures.refusal) (not-zero _))
 
-pub returns-then-refusal-ne0-clause-text : goal.returns-then-refusal-ne0-clause-text
-returns-then-refusal-ne0-clause-text c = refl
-
-pub put_codes-requires-clause-swatches_len : goal.put_codes-requires-clause-swatches_len
-put_codes-requires-clause-swatches_len c = (c.read-d.ensures.size, c.read-d.ensures.most)
-
-pub put_codes-requires-clause-room : goal.put_codes-requires-clause-room
-put_codes-requires-clause-room c =
-    let none = unrefused _ _ _ _ _ c.read-d.ensures c.room_refusal.ensures c.first_of-refusal.ensures c.if-refusal-ne0.false in
-    (room _ _ _ _ _ c.read-d.ensures none).0
-
-pub put_colours-requires-clause-swatches_len : goal.put_colours-requires-clause-swatches_len
-put_colours-requires-clause-swatches_len c = (c.read-d.ensures.size, c.read-d.ensures.most)
-
-pub put_colours-requires-clause-room : goal.put_colours-requires-clause-room
-put_colours-requires-clause-room c =
-    let none = unrefused _ _ _ _ _ c.read-d.ensures c.room_refusal.ensures c.first_of-refusal.ensures c.if-refusal-ne0.false in
-    (room _ _ _ _ _ c.read-d.ensures none).1
+pub returns-in_err-check_room-clause-imports : goal.returns-in_err-check_room-clause-imports
+returns-in_err-check_room-clause-imports c =
+    let p = err_from_is_err_and c.from_residual-in_err-check_room.result c.from_residual-in_err-check_room.ensures.1 in
+    rw (p.1, p.2)
+    (imports-refused _ _ _ _ _
+    (columns-by_room c.args.text.now _ _ _ _ c.in_ok-deck.ensures.refusal c.in_ok-deck.ensures.deck c.in_err-check_room.ensures) (not-zero _))
 
 pub returns-clause-imports : goal.returns-clause-imports
 returns-clause-imports c =
-    let none = unrefused _ _ _ _ _ c.read-d.ensures c.room_refusal.ensures c.first_of-refusal.ensures c.if-refusal-ne0.false in
-    imports-done _ _ _ _ _ c.read-d.ensures none c.put_codes.ensures c.put_colours.ensures.l c.put_colours.ensures.a c.put_colours.ensures.b
-
-pub returns-clause-text : goal.returns-clause-text
-returns-clause-text c = refl
+    let is = c.in_ok-deck.ensures.deck in
+    let size = taken is in
+    let none = sym (columns-by_room c.args.text.now _ _ _ _ c.in_ok-deck.ensures.refusal is c.in_ok-check_room.ensures) in
+    imports-done _ _ _ _ _ is none (rw size at c.put_codes.ensures) (rw size at c.put_colours.ensures.l)
+    (rw size at c.put_colours.ensures.a) (rw size at c.put_colours.ensures.b)

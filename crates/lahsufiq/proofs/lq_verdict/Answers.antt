@@ -1,15 +1,10 @@
 -- `lahsufiq::lq_verdict` meets its contract. Assumes nothing.
-use mathlib.Core.Path.{ap, ◌∙◌}
-use Rattle.measure.specs.Answers.{refusal_of, difference_of}
-use Rattle.lahsufiq.specs.Interface.{one_of}
+use mathlib.Core.Path.{◌∙◌}
+use Rattle.lahsufiq.proofs.Handing.{hands_verdict}
 use Rattle.lahsufiq.proofs.lq_verdict.Goals as goal
 
-pub returns-clause-difference : goal.returns-clause-difference
-returns-clause-difference c = record {
-  refusal = c.number.ensures ∙ ap refusal_of c.verdict-v.ensures.difference;
-  difference = c.value.ensures ∙
-      ap difference_of c.verdict-v.ensures.difference;
-}
-
-pub returns-clause-within : goal.returns-clause-within
-returns-clause-within c = c.one.ensures ∙ ap one_of c.verdict-v.ensures.within
+pub returns : goal.returns
+returns c =
+    let h = hands_verdict _ _ _ _ c.verdict-answer.ensures c.unwrap_or-judgement.ensures in
+    rw (← c.reading-s.ensures, ← c.reading-t.ensures, ← c.weights-w.ensures, c.number.ensures)
+    (record { difference = h.0; within = c.from.ensures ∙ h.1 })

@@ -1,36 +1,25 @@
 -- `measure::cie94` meets its contract. Assumes nothing.
-use mathlib.Core.Path.{sym, ap, ◌∙◌, subst}
-use Rattle.sample.specs.Inner.{WeightsIn}
-use Rattle.fixed_point.proofs.FixedLaws.{weights_in}
+use mathlib.Core.Path.{ap, ◌∙◌}
+use Rattle.std.proofs.lemmas.Result.{err_from_is_err_and}
+use Rattle.refusal.proofs.RefusalLaws.{gives-value, gives-refusal}
 use Rattle.difference.specs.Cie94.{cie94_of}
 use Rattle.measure.specs.Answers.{double_of}
-use Rattle.measure.specs.declared.Difference.TheVariants.{Refused}
-use Rattle.measure.proofs.Refusing.{refused, given, Unrefused, weighted-none, with-exchange}
+use Rattle.measure.proofs.Answering.{weighted-by, worked}
+use Rattle.measure.proofs.Refusing.{with-exchange}
 use Rattle.measure.proofs.cie94.Goals as goal
-use Rattle.measure.proofs.cie94.Goals.{Else-refusal-ne0}
 
-none : (c : Else-refusal-ne0) → Unrefused c.args.first c.args.second c.args.weights
-none c = weighted-none _ _ _ (sym c.weighted_refusal-refusal.ensures ∙ c.if-refusal-ne0.false)
-
-pub returns-then-refusal-ne0 : goal.returns-then-refusal-ne0
-returns-then-refusal-ne0 c = let p = with-exchange _ _ _ _ _ (ap Refused c.weighted_refusal-refusal.ensures ∙ refused _ _ (λ z. c.if-refusal-ne0.true (c.weighted_refusal-refusal.ensures ∙ z))) in record { is = p.0; symmetric = p.1 }
-
-pub fixed_weights-w-requires : goal.fixed_weights-w-requires
-fixed_weights-w-requires c = (none c).weights
-
-pub prepared-s-requires : goal.prepared-s-requires
-prepared-s-requires c = (none c.before).first
-
-pub prepared-t-requires : goal.prepared-t-requires
-prepared-t-requires c = (none c.before.before).second
-
-pub cie94-requires-clause-weights_in : goal.cie94-requires-clause-weights_in
-cie94-requires-clause-weights_in c = subst WeightsIn (sym c.fixed_weights-w.ensures) (weights_in _ (none c.before.before.before).weights)
+pub returns-in_err-x : goal.returns-in_err-x
+returns-in_err-x c =
+    let p = err_from_is_err_and c.from_residual.result c.from_residual.ensures.1 in
+    let refused = gives-refusal _ _ (c.in_err-x.ensures.refusal ∙ weighted-by _ _ _ _ c.rounded.ensures.refusal) in
+    let both = with-exchange c.args.application c.args.comparison c.args.weights c.args.first c.args.second refused in
+    rw (p.1, p.2) (record { is = both.0; symmetric = both.1 })
 
 pub returns : goal.returns
-returns c = let p = with-exchange _ _ _ _ _
-    (given _ _ (sym c.weighted_refusal-refusal.ensures ∙ c.if-refusal-ne0.false)
-    (c.double.ensures ∙ ap double_of
-    (c.cie94.ensures.is ∙
-    (λ i. cie94_of c.args.application c.args.comparison (c.fixed_weights-w.ensures i) (c.prepared-s.ensures.is i)
-    (c.prepared-t.ensures.is i))))) in record { is = p.0; symmetric = p.1 }
+returns c =
+    let x = worked _ _ _ c.rounded.ensures.refusal c.rounded.ensures.weights c.in_ok-x.ensures.refusal c.in_ok-x.ensures.accepted in
+    let is = c.cie94.ensures.is ∙ (λ i. cie94_of c.args.application c.args.comparison (x.weights i) (x.first i) (x.second i)) in
+    let both =
+    with-exchange c.args.application c.args.comparison c.args.weights c.args.first c.args.second
+    (gives-value x.none (c.double.ensures ∙ ap double_of is)) in
+    record { is = both.0; symmetric = both.1 }

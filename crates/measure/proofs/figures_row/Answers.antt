@@ -1,4 +1,5 @@
 -- `measure::figures_row` meets its contract: each signed number is read back as itself, and each other one fits 63 bits.
+use mathlib.Core.Path.{◌≡◌, refl, ap, ◌∙◌}
 -- Assumes nothing.
 use mathlib.Core.Bool.{Bool, true, false, cond}
 use mathlib.Core.List.{[], ◌∷◌}
@@ -12,19 +13,21 @@ use Rattle.signed.specs.Inner.{int}
 use Rattle.signed.proofs.Border.{read_back}
 use Rattle.difference.specs.Inner.{intermediate_figures, point_of, signed_parts}
 use Rattle.measure.specs.Answers.{figures_row}
+use lib.IntN.{pos}
+use mir.Val.{bool_byte}
 use Rattle.measure.proofs.figures_row.Goals as goal
 
 one-or-none : (b : Bool) → cond b 1 0 < 2 ^ 63
 one-or-none true = lit< tt
 one-or-none false = lit< tt
 
+byte-is : (b : Bool) → bool_byte b ≡ cond b 1 0
+byte-is true = refl
+byte-is false = refl
+
 pub overflow_cast-result : goal.overflow_cast-result
 unfolding intermediate_figures point_of
 overflow_cast-result c = sfits_of c.requires.figures_in.c1
-
-pub overflow_cast-result-2 : goal.overflow_cast-result-2
-unfolding intermediate_figures point_of
-overflow_cast-result-2 c = sfits_of c.requires.figures_in.cp1
 
 pub overflow_cast-result-3 : goal.overflow_cast-result-3
 unfolding intermediate_figures point_of
@@ -33,10 +36,6 @@ overflow_cast-result-3 c = sfits_of c.requires.figures_in.h1
 pub overflow_cast-result-4 : goal.overflow_cast-result-4
 unfolding intermediate_figures point_of
 overflow_cast-result-4 c = sfits_of c.requires.figures_in.c2
-
-pub overflow_cast-result-5 : goal.overflow_cast-result-5
-unfolding intermediate_figures point_of
-overflow_cast-result-5 c = sfits_of c.requires.figures_in.cp2
 
 pub overflow_cast-result-6 : goal.overflow_cast-result-6
 unfolding intermediate_figures point_of
@@ -70,10 +69,6 @@ pub overflow_cast-result-13 : goal.overflow_cast-result-13
 unfolding intermediate_figures point_of
 overflow_cast-result-13 c = sfits_of c.requires.figures_in.r
 
-pub overflow_cast-result-14 : goal.overflow_cast-result-14
-unfolding intermediate_figures point_of
-overflow_cast-result-14 c = sfits_of (omega (arith, c.requires.figures.difference))
-
 pub returns : goal.returns
 unfolding figures_row intermediate_figures point_of signed_parts int
 returns c =
@@ -88,7 +83,7 @@ returns c =
     let l = read_back w64 r.parts.l c.to_i64-l.ensures (omega (arith, h.parts.l)) in
     let m = read_back w64 r.parts.c c.to_i64-c.ensures (omega (arith, h.parts.c)) in
     let k = read_back w64 r.parts.h c.to_i64-h.ensures (omega (arith, h.parts.h)) in
-    let far = read_back w64 (record { neg = false; n = cond r.hues.far 1 0 }) c.far_number-far.ensures (one-or-none r.hues.far) in
+    let far = read_back w64 (record { neg = false; n = cond r.hues.far 1 0 }) (c.from.ensures ∙ ap pos (byte-is r.hues.far)) (one-or-none r.hues.far) in
     λ i. to_z_pos w64 r.c1 n.c1 i ∷ a1 i ∷ b1 i ∷ to_z_pos w64 r.p1.chroma n.cp1 i ∷ to_z_pos w64 r.hues.h1 n.h1 i
     ∷ to_z_pos w64 r.c2 n.c2 i ∷ a2 i ∷ b2 i ∷ to_z_pos w64 r.p2.chroma n.cp2 i ∷ to_z_pos w64 r.hues.h2 n.h2 i
     ∷ to_z_pos w64 r.z n.z i ∷ far i ∷ d i ∷ to_z_pos w64 r.hues.mean n.mean i

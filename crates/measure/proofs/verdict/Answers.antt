@@ -1,39 +1,32 @@
 -- `measure::verdict` meets its contract. Assumes nothing.
-use mathlib.Core.Path.{◌≡◌, sym, ap, ◌∙◌, subst}
-use Prim.Native.Nat.{ℕ, ◌≤◌}
+use mathlib.Core.Path.{sym, ap, ◌∙◌}
+use Prim.Native.Nat.{ℕ}
+use Rattle.std.proofs.lemmas.Result.{err_from_is_err_and}
+use Rattle.refusal.specs.Refusals.{first_of}
+use Rattle.refusal.proofs.RefusalLaws.{gives-value, gives-refusal, first-refused}
 use Rattle.fixed_point.specs.Refusals.{tolerance_refusal}
-use Rattle.fixed_point.proofs.FixedLaws.{tolerance-le}
 use Rattle.difference.specs.Verdict.{within_tolerance}
 use Rattle.measure.specs.Answers.{double_of}
-use Rattle.measure.specs.Calls.{weighted_refusal}
-use Rattle.measure.specs.declared.Difference.TheVariants.{Refused}
-use Rattle.measure.proofs.Refusing.{refused, given, refused-no, given_yes, verdict-none}
+use Rattle.measure.proofs.Answering.{weighted-by, worked, ciede2000-worked}
+use Rattle.measure.proofs.Refusing.{verdict-is}
 use Rattle.measure.proofs.verdict.Goals as goal
-use Rattle.measure.proofs.verdict.Goals.{Else-refusal-ne0}
 
-none : (c : Else-refusal-ne0) →
-    (weighted_refusal c.args.standard c.args.sample
-    c.args.weights ≡ 0) × (tolerance_refusal c.args.tolerance ≡ 0)
-none c = verdict-none _ _ _ _ (sym c.verdict_refusal-refusal.ensures ∙ c.if-refusal-ne0.false)
+pub returns-in_err-pair : goal.returns-in_err-pair
+returns-in_err-pair c =
+    let p = err_from_is_err_and c.from_residual.result c.from_residual.ensures.1 in
+    let by = c.in_err-pair.ensures.refusal ∙ weighted-by _ _ _ _ c.rounded.ensures.refusal in
+    rw (p.1, p.2) (gives-refusal _ _ (sym (first-refused _ _ by) ∙ verdict-is _ _ _ _))
 
-pub returns-then-refusal-ne0 : goal.returns-then-refusal-ne0
-returns-then-refusal-ne0 c =
-    record { difference = ap Refused c.verdict_refusal-refusal.ensures ∙ refused _ _ (λ z. c.if-refusal-ne0.true (c.verdict_refusal-refusal.ensures ∙ z)); within = refused-no _ _ (λ z. c.if-refusal-ne0.true (c.verdict_refusal-refusal.ensures ∙ z)) }
-
-pub millionths-n-requires : goal.millionths-n-requires
-millionths-n-requires c = (none c).0
-
-pub fixed_tolerance-requires : goal.fixed_tolerance-requires
-fixed_tolerance-requires c = (none c.before.before).1
-
-pub within_tolerance-requires : goal.within_tolerance-requires
-within_tolerance-requires c = subst (λ (n : ℕ). n ≤ 1000000) (sym c.fixed_tolerance.ensures)
-    (tolerance-le _ (none c.before.before.before).1)
+pub returns-in_err-tolerance : goal.returns-in_err-tolerance
+returns-in_err-tolerance c =
+    let p = err_from_is_err_and c.from_residual-in_err-tolerance.result c.from_residual-in_err-tolerance.ensures.1 in
+    let x = worked _ _ _ c.rounded.ensures.refusal c.rounded.ensures.weights c.in_ok-pair.ensures.refusal c.in_ok-pair.ensures.accepted in
+    let by = c.in_err-tolerance.ensures.refusal ∙ ap (λ (n : ℕ). first_of n (tolerance_refusal c.args.tolerance)) (sym x.none) in
+    rw (p.1, p.2) (gives-refusal _ _ (by ∙ verdict-is _ _ _ _))
 
 pub returns : goal.returns
 returns c =
-    let e = sym c.verdict_refusal-refusal.ensures ∙ c.if-refusal-ne0.false in
-    record {
-      difference = given _ _ e (c.double.ensures ∙ ap double_of c.millionths-n.ensures.is);
-      within = given_yes _ e (c.within_tolerance.ensures ∙ (λ i. within_tolerance (c.millionths-n.ensures.is i) (c.fixed_tolerance.ensures i)));
-    }
+    let x = worked _ _ _ c.rounded.ensures.refusal c.rounded.ensures.weights c.in_ok-pair.ensures.refusal c.in_ok-pair.ensures.accepted in
+    let none = sym (verdict-is _ _ _ _) ∙ ap (λ (n : ℕ). first_of n (tolerance_refusal c.args.tolerance)) x.none ∙ sym c.in_ok-tolerance.ensures.refusal in
+    let is = ciede2000-worked _ _ _ x c.ciede2000-n.ensures in
+    gives-value none (λ i. record { difference = (c.double.ensures ∙ ap double_of is) i; within = (c.within_tolerance.ensures ∙ (λ j. within_tolerance (is j) (c.in_ok-tolerance.ensures.tolerance j))) i })

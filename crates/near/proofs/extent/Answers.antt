@@ -10,6 +10,6 @@ pub returns : goal.returns
 unfolding extent lab_of
 returns c =
     record {
-      is = c.greater.ensures ∙ (λ i. max (c.size.ensures.is i) (c.size-2.ensures.is i));
-      size = omega arith;
+      is = c.max.ensures ∙ (λ i. max (c.size.ensures.is i) (c.size-2.ensures.is i));
+      size = omega (arith, c.args.s.a_within, c.args.s.b_within, c.size.ensures.size, c.size-2.ensures.size, c.max.ensures);
     }

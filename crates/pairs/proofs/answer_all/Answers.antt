@@ -5,8 +5,8 @@ use Rattle.std.proofs.Common.{arith}
 use mathlib.Core.Path.{sym, ap, ◌∙◌}
 use Rattle.text.specs.Text.{Held}
 use Rattle.text.specs.Stream.{last_text, text_so_far}
-use Rattle.text.proofs.Whole.{text-whole}
-use Rattle.pairs.proofs.Whole.{appends-more, consumes-more, state-more, text-more}
+use Rattle.text.proofs.Whole.{text-whole, text-more}
+use Rattle.pairs.proofs.Whole.{appends-more, consumes-more, state-more}
 use Rattle.pairs.proofs.answer_all.Goals as goal
 
 pub loop-preserved : goal.loop-preserved

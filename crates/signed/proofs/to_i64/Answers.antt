@@ -1,9 +1,6 @@
 -- `signed::to_i64` meets its contract. Assumes nothing.
-use Rattle.signed.proofs.Border.{minus-fits, minus_is, plus-is}
+use Rattle.signed.proofs.Border.{minus_is, plus-is}
 use Rattle.signed.proofs.to_i64.Goals as goal
-
-pub overflow_sub-result : goal.overflow_sub-result
-overflow_sub-result c = search (minus-fits)
 
 pub returns-then-a : goal.returns-then-a
 returns-then-a c = search (minus_is)

@@ -1,8 +1,11 @@
--- `sine::entry` meets its contract: what stands at k is the sine of k tenths, which is at most 10^9.
+-- `sine::entry` meets its contract: the table of the code is the computed one, entry by entry.
 -- Assumes nothing.
-use mathlib.Core.Path.{◌∙◌}
-use Rattle.sine.proofs.Results.{entry_of}
+use mathlib.Core.Path.{refl}
+use Rattle.sine.specs.Sine.{unit, pi, alternating, series, sine_entry}
+use Rattle.sine.proofs.Tabulate.{tabulate}
+use Rattle.sine.proofs.Results.{table-entry, entry_of}
 use Rattle.sine.proofs.entry.Goals as goal
 
 pub returns : goal.returns
-returns c = entry_of c.requires.k_bound (c.wide.ensures ∙ c.requires.sine_table.entry _ c.requires.k_bound)
+unfolding unit pi alternating series sine_entry tabulate
+returns c = entry_of c.requires.k_bound (table-entry _ refl _ c.requires.k_bound)

@@ -1,24 +1,26 @@
 -- `text::read_colour` meets its contract. Assumes nothing.
-use mathlib.Core.Path.{refl}
-use Rattle.text.proofs.LineLaws.{decimal-at, colour-none, colour-one, colour-two, colour-three}
+use mathlib.Core.Path.{sym, ap, ◌∙◌}
+use Rattle.decimal.specs.Reading.{decimal_of}
+use Rattle.text.specs.Inner.{colour_found}
+use Rattle.text.proofs.LineLaws.{colour-none, colour-one, colour-two, colour-three}
 use Rattle.text.proofs.read_colour.Goals as goal
 
-pub returns-in_default : goal.returns-in_default
-returns-in_default c = colour-none _ (decimal-at c.args.s.now c.args.at refl c.in_default.ensures refl)
+pub returns-in_err-l : goal.returns-in_err-l
+returns-in_err-l c = ap colour_found c.from_residual.ensures ∙ colour-none _ (sym c.in_err-l.ensures.value)
 
-pub returns-in_default-read_decimal : goal.returns-in_default-read_decimal
-returns-in_default-read_decimal c =
-    let e = decimal-at c.args.s.now c.args.at refl c.in-Value.ensures refl in
-    colour-one _ e (decimal-at c.args.s.now c.after_space.result c.after_space.ensures c.in_default-read_decimal.ensures refl)
+pub returns-in_err-a : goal.returns-in_err-a
+returns-in_err-a c =
+    let a = ap decimal_of (sym c.after_space.ensures) ∙ sym c.in_err-a.ensures.value in
+    ap colour_found c.from_residual-in_err-a.ensures ∙ colour-one c.args.s.now (sym c.in_ok-l.ensures.value) a
 
-pub returns-in_default-read_decimal-2 : goal.returns-in_default-read_decimal-2
-returns-in_default-read_decimal-2 c =
-    let e = decimal-at c.args.s.now c.args.at refl c.in-Value.ensures refl in
-    let f = decimal-at c.args.s.now c.after_space.result c.after_space.ensures c.in-Value-read_decimal.ensures refl in
-    colour-two _ e f (decimal-at c.args.s.now c.after_space-2.result c.after_space-2.ensures c.in_default-read_decimal-2.ensures refl)
+pub returns-in_err-b : goal.returns-in_err-b
+returns-in_err-b c =
+    let a = ap decimal_of (sym c.after_space.ensures) ∙ sym c.in_ok-a.ensures.value in
+    let b = ap decimal_of (sym c.after_space-2.ensures) ∙ sym c.in_err-b.ensures.value in
+    ap colour_found c.from_residual-in_err-b.ensures ∙ colour-two c.args.s.now (sym c.in_ok-l.ensures.value) a b
 
 pub returns : goal.returns
 returns c =
-    let e = decimal-at c.args.s.now c.args.at refl c.in-Value.ensures refl in
-    let f = decimal-at c.args.s.now c.after_space.result c.after_space.ensures c.in-Value-read_decimal.ensures refl in
-    colour-three _ e f (decimal-at c.args.s.now c.after_space-2.result c.after_space-2.ensures c.in-Value-read_decimal-2.ensures refl)
+    let a = ap decimal_of (sym c.after_space.ensures) ∙ sym c.in_ok-a.ensures.value in
+    let b = ap decimal_of (sym c.after_space-2.ensures) ∙ sym c.in_ok-b.ensures.value in
+    colour-three c.args.s.now (sym c.in_ok-l.ensures.value) a b

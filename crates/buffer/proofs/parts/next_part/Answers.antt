@@ -4,9 +4,6 @@ use lib.ListN.{drop}
 use Rattle.buffer.proofs.PartsLaws.{from_out}
 use Rattle.buffer.proofs.parts.next_part.Goals as goal
 
-pub returns-then-at-bytes : goal.returns-then-at-bytes
-returns-then-at-bytes c = sym (ap (drop 1) c.part_end.ensures.is)
-
 pub returns : goal.returns
 returns c =
     let none = from_out _ _ _ c.if-at-bytes.false in

@@ -4,8 +4,5 @@ use Rattle.buffer.specs.Inner.{first_part}
 use Rattle.buffer.proofs.PartsLaws.{from_out}
 use Rattle.buffer.proofs.parts.part.Goals as goal
 
-pub returns-then-at-bytes : goal.returns-then-at-bytes
-returns-then-at-bytes c = sym (ap first_part c.part_end-end.ensures.is)
-
 pub returns : goal.returns
 returns c = sym (ap first_part (from_out _ _ _ c.if-at-bytes.false))

@@ -9,15 +9,14 @@ use Rattle.difference.specs.Parts.{squared}
 use Rattle.difference.specs.Pair.{lightness_difference}
 use Rattle.difference.specs.Cie76.{cie76_of}
 use Rattle.signed.proofs.Squares.{square_le}
-use Rattle.sample.proofs.SampleLaws.{lab-l, lab-a, lab-b}
 use Rattle.difference.proofs.cie76.cie76.Goals as goal
 
 sizes : (c : goal.After-difference-b) → (c.natural_difference-l.result.n ≤ 1000000) ×
     (c.difference-a.result.n ≤ 2560000) × (c.difference-b.result.n ≤ 2560000)
 sizes c = (
-  omega (arith, c.natural_difference-l.ensures.most, lab-l _ c.requires.s_in, lab-l _ c.requires.t_in),
-  omega (arith, c.difference-a.ensures.size, lab-a _ c.requires.s_in, lab-a _ c.requires.t_in),
-  omega (arith, c.difference-b.ensures.size, lab-b _ c.requires.s_in, lab-b _ c.requires.t_in),
+  omega (arith, c.natural_difference-l.ensures.most, c.args.s.l_within, c.args.t.l_within),
+  omega (arith, c.difference-a.ensures.size, c.args.s.a_within, c.args.t.a_within),
+  omega (arith, c.difference-b.ensures.size, c.args.s.b_within, c.args.t.b_within),
 )
 
 under-root : (c : goal.After-sum_of_squares) → 10000 * c.sum_of_squares.result ≤ 1400000000 * 1400000000
@@ -26,10 +25,10 @@ under-root c =
     omega (arith, c.sum_of_squares.ensures.size, square_le h.0, square_le h.1, square_le h.2)
 
 pub difference-a-requires : goal.difference-a-requires
-difference-a-requires c = omega (arith, lab-a _ c.requires.s_in, lab-a _ c.requires.t_in)
+difference-a-requires c = omega (arith, c.args.s.a_within, c.args.t.a_within)
 
 pub difference-b-requires : goal.difference-b-requires
-difference-b-requires c = omega (arith, lab-b _ c.requires.s_in, lab-b _ c.requires.t_in)
+difference-b-requires c = omega (arith, c.args.s.b_within, c.args.t.b_within)
 
 pub sum_of_squares-requires : goal.sum_of_squares-requires
 sum_of_squares-requires c = let h = sizes c in omega arith

@@ -1,46 +1,27 @@
 -- `difference::cie94::parts94` meets its contract. Assumes nothing.
 use mathlib.Core.Path.{◌∙◌}
 use Prim.Native.Nat.{◌≤◌}
-use native.Mathlib.Nat.{le_trans, le_of_eq}
 use native.Mathlib.Omega.{arith}
 use lib.IntN.{pos, ◌-ℤ◌}
 use Rattle.difference.specs.Parts.{parts_of}
 use Rattle.difference.specs.Pair.{plain_of, lightness_difference, chroma_difference}
-use Rattle.difference.specs.Cie94.{chroma_constant, hue_constant, weighting_chroma, weighting_function, parts94_of}
-use Rattle.difference.specs.declared.cie94.Application.{Application}
-use Rattle.difference.specs.declared.cie94.Application.TheVariants.{GraphicArts, Textiles}
+use Rattle.difference.specs.Cie94.{weighting_chroma, weighting_function, parts94_of}
 use Rattle.difference.specs.Inner.{prepared_sample}
-use Rattle.difference.proofs.Points.{l-in, chroma-in}
+use Rattle.difference.proofs.Points.{chroma-is, chroma-in}
 use Rattle.difference.proofs.cie94.parts94.Goals as goal
-
-constants-le : (k : Application) → (chroma_constant k ≤ 48) × (hue_constant k ≤ 48)
-constants-le GraphicArts = (omega arith, omega arith)
-constants-le Textiles = (omega arith, omega arith)
 
 pub weighting_chroma-chroma-requires : goal.weighting_chroma-chroma-requires
 weighting_chroma-chroma-requires c =
-    let c1 = chroma-in _ c.requires.s_ready in
-    let c2 = chroma-in _ c.requires.t_ready in
+    let c1 = chroma-in c.args.s in
+    let c2 = chroma-in c.args.t in
     record { c1_bound = omega (arith, c1, c2); c2_bound = omega (arith, c1, c2) }
-
-pub weighting_function-sc-requires-clause-constant_bound : goal.weighting_function-sc-requires-clause-constant_bound
-weighting_function-sc-requires-clause-constant_bound c = le_trans (le_of_eq c.chroma_constant.ensures) (constants-le c.args.application).0
-
-pub weighting_function-sc-requires-clause-c_bound : goal.weighting_function-sc-requires-clause-c_bound
-weighting_function-sc-requires-clause-c_bound c = c.weighting_chroma-chroma.ensures.high
-
-pub weighting_function-sh-requires-clause-constant_bound : goal.weighting_function-sh-requires-clause-constant_bound
-weighting_function-sh-requires-clause-constant_bound c = le_trans (le_of_eq c.hue_constant.ensures) (constants-le c.args.application).1
-
-pub weighting_function-sh-requires-clause-c_bound : goal.weighting_function-sh-requires-clause-c_bound
-weighting_function-sh-requires-clause-c_bound c = c.weighting_chroma-chroma.ensures.high
 
 pub parts-requires : goal.parts-requires
 parts-requires c =
     let l : c.natural_difference-l.result.n ≤ 1000000 = omega
-    (arith, c.natural_difference-l.ensures.most, l-in _ c.requires.s_ready, l-in _ c.requires.t_ready) in
+    (arith, c.natural_difference-l.ensures.most, c.args.s.light, c.args.t.light) in
     let dc : c.natural_difference-c.result.n ≤ 2307552816 = omega
-    (arith, c.natural_difference-c.ensures.most, chroma-in _ c.requires.s_ready, chroma-in _ c.requires.t_ready) in
+    (arith, c.natural_difference-c.ensures.most, chroma-in c.args.s, chroma-in c.args.t) in
     record {
       weights_in = c.requires.weights_in;
       difference_bounds = (l, (dc, c.hue_difference94-h.ensures.size));
@@ -52,11 +33,11 @@ parts-requires c =
 pub returns : goal.returns
 unfolding parts94_of lightness_difference chroma_difference plain_of prepared_sample
 returns c =
-    let chroma = c.weighting_chroma-chroma.ensures.is ∙ (λ i. weighting_chroma c.args.comparison (c.requires.s_ready.chroma i) (c.requires.t_ready.chroma i)) in
+    let chroma = c.weighting_chroma-chroma.ensures.is ∙ (λ i. weighting_chroma c.args.comparison (chroma-is c.args.s i) (chroma-is c.args.t i)) in
     record {
       is = c.parts.ensures.is
           ∙ (λ i. parts_of c.args.w (c.natural_difference-l.ensures.is i)
-          ((c.natural_difference-c.ensures.is ∙ (λ j. pos (c.requires.t_ready.chroma j) -ℤ pos (c.requires.s_ready.chroma j))) i)
+          ((c.natural_difference-c.ensures.is ∙ (λ j. pos (chroma-is c.args.t j) -ℤ pos (chroma-is c.args.s j))) i)
           (c.hue_difference94-h.ensures.is i) 1000000000
           ((c.weighting_function-sc.ensures.is ∙ (λ j. weighting_function (c.chroma_constant.ensures j) (chroma j))) i)
           ((c.weighting_function-sh.ensures.is ∙ (λ j. weighting_function (c.hue_constant.ensures j) (chroma j))) i));

@@ -1,15 +1,10 @@
 -- `difference::cie94::weighting_chroma` meets its contract. Assumes nothing.
 use mathlib.Core.Path.{sym, ap, ◌∙◌}
 use native.Mathlib.Nat.{mul-le-mul, le_trans, le_of_eq}
-use native.Mathlib.Omega.{arith}
 use Rattle.isqrt.proofs.RootLaws.{root-le}
 use Rattle.difference.specs.Cie94.{weighting_chroma}
 use Rattle.difference.specs.declared.cie94.Comparison.{Comparison}
 use Rattle.difference.proofs.cie94.weighting_chroma.Goals as goal
-
-pub geometric_mean-requires : goal.geometric_mean-requires
-geometric_mean-requires c =
-    omega (arith, mul-le-mul c.requires.c1_bound c.requires.c2_bound)
 
 pub returns-in-WithStandard : goal.returns-in-WithStandard
 unfolding weighting_chroma

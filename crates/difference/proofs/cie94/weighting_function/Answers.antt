@@ -5,12 +5,6 @@ use native.Mathlib.Omega.{arith}
 use Rattle.difference.specs.Cie94.{weighting_function}
 use Rattle.difference.proofs.cie94.weighting_function.Goals as goal
 
-pub overflow_mul-result : goal.overflow_mul-result
-overflow_mul-result c = omega (arith, mul-le-mul c.requires.constant_bound c.requires.c_bound)
-
-pub overflow_add-result : goal.overflow_add-result
-overflow_add-result c = omega (arith, mul-le-mul c.requires.constant_bound c.requires.c_bound)
-
 pub returns : goal.returns
 unfolding weighting_function
 returns c = record {

@@ -1,10 +1,9 @@
 -- `difference::ciede2000::weighting_terms` meets its contract. Assumes nothing.
 use mathlib.Core.Path.{ap, ◌∙◌}
-use Prim.Native.Nat.{ℕ, ◌*◌, ◌/◌}
+use Prim.Native.Nat.{ℕ}
 use native.Mathlib.Nat.{le_trans, le_of_eq}
 use Rattle.chroma.proofs.ChromaLaws.{ratio-le}
-use Rattle.gaussian.proofs.GaussianLaws.{gaussian-le}
-use Rattle.weighting.specs.Weighting.{hue_weight, rotation_sine, rotation}
+use Rattle.weighting.specs.Weighting.{hue_weight, rotation}
 use Rattle.weighting.proofs.WeightingLaws.{hue_term-le}
 use Rattle.difference.specs.Pair.{terms_of}
 use Rattle.difference.proofs.ciede2000.weighting_terms.Goals as goal
@@ -12,22 +11,16 @@ use Rattle.difference.proofs.ciede2000.weighting_terms.Goals as goal
 pub hue_weight-requires-clause-t_bound : goal.hue_weight-requires-clause-t_bound
 hue_weight-requires-clause-t_bound c = le_trans (le_of_eq c.hue_term-t.ensures) (hue_term-le _)
 
-pub rotation_term-requires-clause-sine_table : goal.rotation_term-requires-clause-sine_table
-rotation_term-requires-clause-sine_table c = c.requires.sine_table
-
-pub rotation_term-requires-clause-e_bound : goal.rotation_term-requires-clause-e_bound
-rotation_term-requires-clause-e_bound c = le_trans (le_of_eq c.requires.gaussian) (gaussian-le _)
-
-pub rotation_term-requires-clause-z_bound : goal.rotation_term-requires-clause-z_bound
-rotation_term-requires-clause-z_bound c = le_trans (le_of_eq c.ratio.ensures) (ratio-le _)
+pub rotation_term-requires : goal.rotation_term-requires
+rotation_term-requires c = le_trans (le_of_eq c.ratio.ensures) (ratio-le _)
 
 pub returns : goal.returns
-unfolding terms_of rotation
+unfolding terms_of
 returns c =
     λ i. record {
       t = c.hue_term-t.ensures i;
       sl = c.lightness_weight.ensures i;
       sc = c.chroma_weight.ensures i;
       sh = (c.hue_weight.ensures ∙ ap (λ (n : ℕ). hue_weight c.args.sum n) c.hue_term-t.ensures) i;
-      r = (c.rotation_term.ensures ∙ (λ j. 2 * c.ratio.ensures j * rotation_sine (c.requires.gaussian j) / 1000000000)) i;
+      r = (c.rotation_term.ensures ∙ ap (λ (n : ℕ). rotation n c.args.mean) c.ratio.ensures) i;
     }

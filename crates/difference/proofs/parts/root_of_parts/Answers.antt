@@ -14,7 +14,7 @@ use Rattle.difference.specs.Parts.{sum_of, combined}
 use Rattle.difference.specs.Inner.{signed_parts}
 use Rattle.signed.proofs.Squares.{square_le}
 use Rattle.difference.proofs.parts.root_of_parts.Goals as goal
-use Rattle.difference.proofs.parts.root_of_parts.Goals.{After-divided, After-natural-sum, After-size}
+use Rattle.difference.proofs.parts.root_of_parts.Goals.{After-divided, After-from-sum, After-size}
 
 -- h R / 10^9
 turn-le : (c : After-divided) → c.divided.result.n ≤ 1846042254
@@ -22,11 +22,11 @@ turn-le c =
     omega (arith, c.divided.ensures.size, c.product.ensures.size, mul-le-mul c.requires.signed_parts_in.h c.requires.r_bound)
 
 -- what stands under the root: the greatest sizes of the parts give less than 1,400²
-total-le : (c : After-natural-sum) → c.natural-sum.result.n + c.product-turned.result.n ≤ 1400000000 * 1400000000
+total-le : (c : After-from-sum) → c.from-sum.result.n + c.product-turned.result.n ≤ 1400000000 * 1400000000
 total-le c =
     omega (
       arith,
-      c.natural-sum.ensures.size,
+      c.from-sum.ensures.size,
       c.sum_of_squares.ensures.size,
       square_le c.requires.signed_parts_in.l,
       square_le c.requires.signed_parts_in.c,
@@ -44,22 +44,13 @@ minus c h r =
     ∙ ap (λ (x : ℤ). c *ℤ x) (neg-quot (h *ℤ pos r) (pos 1000000000))
     ∙ mul-neg c (quot_z (h *ℤ pos r) (pos 1000000000))
 
-pub product-requires : goal.product-requires
-product-requires c = omega (arith, mul-le-mul c.requires.signed_parts_in.h c.requires.r_bound)
-
-pub product-turned-requires : goal.product-turned-requires
-product-turned-requires c = omega (arith, mul-le-mul c.requires.signed_parts_in.c (turn-le c))
-
-pub sum-requires : goal.sum-requires
-sum-requires c = omega (arith, total-le c)
-
 pub returns : goal.returns
 unfolding combined sum_of signed_parts int
 returns c =
     let turn = c.divided.ensures.is ∙ ap (λ (x : ℤ). quot_z x (pos 1000000000)) c.product.ensures.is in
     let turned = c.product-turned.ensures.is ∙ ap (λ (x : ℤ). int c.args.p.c *ℤ x) turn
     ∙ minus (int c.args.p.c) (int c.args.p.h) c.args.r in
-    let sum = c.natural-sum.ensures.is ∙ ap pos c.sum_of_squares.ensures.is in
+    let sum = c.from-sum.ensures.is ∙ ap pos c.sum_of_squares.ensures.is in
     record {
       is =
           c.isqrt.ensures.is

@@ -6,12 +6,9 @@ use lib.ListN.{length, length-set}
 use Rattle.buffer.proofs.PartsLaws.{from_out}
 use Rattle.lab_text.specs.Keywords.{end_data}
 use Rattle.lab_text.specs.Text.{row_lines, ends}
-use Rattle.lab_text.proofs.RowLaws.{so-far-none, so-far-all, rows_end, ends-here, so_far_more, end-from}
+use Rattle.lab_text.proofs.RowLaws.{so-far-all, rows_end, ends-here, so_far_more, so_far_malformed, end-from}
 use Rattle.lab_text.proofs.rows.read_rows.Goals as goal
-use Rattle.lab_text.proofs.rows.read_rows.Goals.{then-count-lt-MOST_SWATCHES, else-count-lt-MOST_SWATCHES}
-
-pub loop-at-init : goal.loop-at-init
-loop-at-init c = (omega arith, c.no_swatches-swatches.ensures, so-far-none _ _ _)
+use Rattle.lab_text.proofs.rows.read_rows.Goals.{in-Some+then-count-lt-MOST_SWATCHES, in-Some+else-count-lt-MOST_SWATCHES, in-None}
 
 pub returns-then-equal : goal.returns-then-equal
 unfolding end_data
@@ -22,13 +19,21 @@ returns-then-equal c =
 pub loop-at-preserved : goal.loop-at-preserved
 unfolding end_data
 loop-at-preserved c =
-    let more = so_far_more _ _ c.loop-at.invariant.2 c.part_end-end.ensures.is c.equal.ensures c.if-equal.false
-    c.read_row-row.ensures c.is_within-within.ensures c.loop-at.invariant.1 in
-    elim c.if-count-lt-MOST_SWATCHES.branch [
-      | then-count-lt-MOST_SWATCHES w ↦
-          (omega (arith, c.part_end-end.ensures.low), ap length w.swatches-is ∙ simp length-set c.loop-at.invariant.1, more (λ _. w.swatches-is))
-      | else-count-lt-MOST_SWATCHES w ↦
-          (omega (arith, c.part_end-end.ensures.low), ap length w.swatches-is ∙ c.loop-at.invariant.1, more (λ h. absurd (omega arith)))
+    let low = c.part_end-end.ensures.low in
+    let size = c.loop-at.invariant.1 in
+    elim c.match-read_row.branch [
+      | in-Some+then-count-lt-MOST_SWATCHES w ↦
+          let more = so_far_more _ _ c.loop-at.invariant.2 c.part_end-end.ensures.is c.equal.ensures c.if-equal.false
+          w.in-Some.ensures w.is_within-within.ensures size (λ _. w.swatches-is) in
+          (omega arith, ap length w.swatches-is ∙ simp length-set size, rw (w.right-is, w.within-is) more)
+      | in-Some+else-count-lt-MOST_SWATCHES w ↦
+          let more = so_far_more _ _ c.loop-at.invariant.2 c.part_end-end.ensures.is c.equal.ensures c.if-equal.false
+          w.in-Some.ensures w.is_within-within.ensures size (λ h. absurd (omega arith)) in
+          (omega arith, ap length w.swatches-is ∙ size, rw (w.right-is, w.within-is) more)
+      | in-None w ↦
+          let more = so_far_malformed _ _ c.loop-at.invariant.2 c.part_end-end.ensures.is c.equal.ensures c.if-equal.false
+          w.in-None.ensures in
+          (omega arith, ap length w.swatches-is ∙ size, rw (w.swatches-is, w.right-is, w.within-is) more)
     ]
 
 pub returns : goal.returns

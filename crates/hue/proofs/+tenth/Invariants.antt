@@ -1,4 +1,0 @@
-use Rattle.hue.proofs.+tenth.Given as goal
-
-abbrev pub decreases-tenth : goal.decreases-tenth
-decreases-tenth l = l.width

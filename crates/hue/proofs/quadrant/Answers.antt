@@ -1,8 +1,0 @@
--- `hue::quadrant` meets its contract: the signs give the quadrant.
--- Assumes nothing.
-use Rattle.signed.specs.Inner.{int}
-use Rattle.hue.proofs.Quadrants.{quadrant-chosen}
-use Rattle.hue.proofs.quadrant.Goals as goal
-
-pub returns : goal.returns
-returns c = cc (quadrant-chosen (int c.args.a) (int c.args.b))

@@ -1,0 +1,2 @@
+-- Laws of the order of refusals, for callers.
+pub mod RefusalLaws

@@ -1,0 +1,2 @@
+-- What the contracts of the calls that refuse cite.
+pub mod Refusals

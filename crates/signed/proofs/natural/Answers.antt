@@ -1,8 +1,0 @@
--- `signed::natural` meets its contract. Assumes nothing.
-use mathlib.Core.Path.{refl}
-use Rattle.signed.specs.Inner.{int}
-use Rattle.signed.proofs.natural.Goals as goal
-
-pub returns : goal.returns
-unfolding int
-returns c = record { is = refl; size = refl }
