@@ -111,7 +111,7 @@ uint32_t lq_deck_read(const uint8_t *file, size_t length, int32_t *l, size_t l_r
  * and one to four digits, exact in 1/10,000. The swatches stand at the front of four columns in rising
  * lightness, those of equal lightness in the order of their rows; each column needs room for all, and
  * entries past them keep their contents. `*count` is the number of swatches. The columns l, a and b then
- * hold a deck that lq_search accepts. The call takes some 300 KiB of stack. Refusals 14, 15, 16, then 6 and
+ * hold a deck that lq_search accepts. The call takes some 390 KiB of stack. Refusals 14, 15, 16, then 6 and
  * 7, then 13. */
 uint32_t lq_import(const uint8_t *text, size_t length, uint32_t *code, size_t code_room, int32_t *l, size_t l_room,
                    int32_t *a, size_t a_room, int32_t *b, size_t b_room, size_t *count);

@@ -445,11 +445,13 @@ fn calls(file: &str, path: &str) -> Vec<Found> {
         if let Some(name) = line.strip_prefix("pub mod ").and_then(|rest| rest.strip_suffix(';')) {
             found.extend(calls(&format!("{folder}/{name}.rt"), &format!("{path}::{name}")));
         }
+        // one name, or several in braces
         let taken = line.strip_prefix("pub use ").and_then(|rest| rest.strip_suffix(';')?.rsplit_once("::"));
-        if let Some((module, name)) = taken {
+        if let Some((module, names)) = taken {
             let inner = format!("{folder}/{module}.rt");
             if Path::new(&inner).exists() {
-                found.extend(calls(&inner, path).into_iter().filter(|(_, call, _)| call.name == name));
+                let names: Vec<&str> = names.trim_matches(['{', '}']).split(',').map(str::trim).collect();
+                found.extend(calls(&inner, path).into_iter().filter(|(_, call, _)| names.contains(&call.name.as_str())));
             }
         }
     }

@@ -1,36 +1,28 @@
 // Short texts without a heap.
 #![tactic(auto)]
 
-ghost use Rattle.std.specs.Prelude.{◌≡◌, List, ℕ, ◌≤◌, length, take};
+ghost use Rattle.std.specs.Prelude.{◌≡◌, ◌≤◌, length, take};
 
-use std::marker::Model;
-
-// A text of at most N bytes, kept in place, seen as its bytes.
-#[derive(Clone, Drop)]
+// A text of at most N bytes, kept in place: the first len bytes of the array.
+#[derive(Clone, Copy)]
 pub struct ArrayText<const N: usize> {
-    text: [u8; N],
-    len: usize,
-}
-
-impl<const N: usize> Model for ArrayText<N> {
-    ghost Value = { List ℕ };
-
-    ghost view = { λ t. take t.len t.text };
-
-    ghost invariant = { λ t. t.len ≤ length t.text };
+    pub text: [u8; N],
+    pub len: usize,
+    pub ghost fits: { len ≤ length text },
 }
 
 impl<const N: usize> ArrayText<N> {
     // The first len bytes of a buffer.
     pub fn new(text: [u8; N], len: usize) -> Self
         requires { len ≤ N }
-        ensures { result ≡ take len text.entry }
+        ensures { (result.text ≡ text.entry) × (result.len ≡ len) }
     {
         ArrayText { text, len }
     }
 
+    // The bytes of the text.
     pub fn as_bytes(&self) -> &[u8]
-        ensures { result.now ≡ self.now }
+        ensures { let t = self.now in result.now ≡ take t.len t.text }
     {
         &self.text[..self.len]
     }

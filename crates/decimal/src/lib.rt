@@ -46,8 +46,8 @@ fn first_digit(s: &[u8]) -> Option<(u64, &[u8])>
     }
 }
 
-// The digits that the bytes start with, at most `most` of them.
-fn run(s: &[u8], most: usize) -> Digits<'_>
+// The digits that the bytes start with, at most `most` of them. There may be none.
+pub fn run(s: &[u8], most: usize) -> Digits<'_>
     requires { most ≤ 19 }
     ensures { IsRun most (run_of most s.now) result }
 {

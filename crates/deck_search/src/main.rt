@@ -46,10 +46,11 @@ fn print_places(rt: &impl Print, places: &[u16], n: usize) -> io::Result<()> {
 
 // The first entry of the caller's list, which a refusal leaves as it was.
 fn print_first(rt: &impl Print, places: &[u16]) -> io::Result<()> {
-    match places.first() {
-        Some(place) => print!(rt; ", the list begins with {place}"),
-        None => Ok(()),
+    if let Some(place) = places.first() {
+        print!(rt; ", the list begins with")?;
+        print!(rt; " {place}")?;
     }
+    Ok(())
 }
 
 fn report(rt: &impl Print, found: Result<usize, SearchError>, places: &[u16]) -> io::Result<()> {

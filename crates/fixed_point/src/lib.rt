@@ -50,7 +50,7 @@ fn some_not_finite(r: Reading) -> bool
 }
 
 // Refusal 1, 2 or 3 of a reading.
-fn check_reading(r: Reading) -> Result<(), Refusal>
+pub fn check_reading(r: Reading) -> Result<(), Refusal>
     ensures { refused_with result ≡ reading_refusal r }
 {
     if some_not_finite(r) {
@@ -69,7 +69,7 @@ fn check_reading(r: Reading) -> Result<(), Refusal>
 }
 
 // Refusal 4 of the weights.
-fn check_weights(w: Weights) -> Result<(), Refusal>
+pub fn check_weights(w: Weights) -> Result<(), Refusal>
     ensures { refused_with result ≡ weights_refusal w }
 {
     if outside(w.l, 0.5, 10.0) {
@@ -80,6 +80,16 @@ fn check_weights(w: Weights) -> Result<(), Refusal>
     }
     if outside(w.h, 0.5, 10.0) {
         return Err(Refusal::Weight);
+    }
+    Ok(())
+}
+
+// Refusal 5 of a tolerance.
+pub fn check_tolerance(t: f32) -> Result<(), Refusal>
+    ensures { refused_with result ≡ tolerance_refusal t }
+{
+    if outside(t, 0.0, 100.0) {
+        return Err(Refusal::Tolerance);
     }
     Ok(())
 }
@@ -134,7 +144,7 @@ fn fixed(x: f32) -> Int
 }
 
 // The sample that an accepted reading is rounded to.
-fn fixed_reading(r: Reading) -> Lab
+pub fn fixed_reading(r: Reading) -> Lab
     requires { reading_refusal r ≡ 0 }
     ensures { lab_of result ≡ sample_of r }
 {
@@ -146,7 +156,7 @@ fn fixed_reading(r: Reading) -> Lab
 }
 
 // Accepted weights, rounded.
-fn fixed_weights(w: Weights) -> FixedWeights
+pub fn fixed_weights(w: Weights) -> FixedWeights
     requires { weights_refusal w ≡ 0 }
     ensures { result ≡ weights_of w }
 {
@@ -155,6 +165,14 @@ fn fixed_weights(w: Weights) -> FixedWeights
         c: fixed_size(w.c),
         h: fixed_size(w.h),
     }
+}
+
+// An accepted tolerance, rounded.
+pub fn fixed_tolerance(t: f32) -> u64
+    requires { tolerance_refusal t ≡ 0 }
+    ensures { result ≡ fixed_size t }
+{
+    fixed_size(t)
 }
 
 impl Reading {
@@ -186,8 +204,6 @@ pub fn rounded_tolerance(t: f32) -> Result<u64, Refusal>
     ensures tolerance { IfOk result (λ n. n ≡ fixed_size t) }
     ensures within { IfOk result (λ n. n ≤ 1000000) }
 {
-    if outside(t, 0.0, 100.0) {
-        return Err(Refusal::Tolerance);
-    }
-    Ok(fixed_size(t))
+    check_tolerance(t)?;
+    Ok(fixed_tolerance(t))
 }

@@ -34,9 +34,9 @@ fn write_list(rt: &impl Print, list: &[Swatch], n: usize) -> io::Result<()> {
 
 // Imports a text and writes what it lists.
 fn list_text(rt: &impl Print, text: &[u8]) -> io::Result<()> {
-    let imported = records::import_list(text);
-    match imported.answer {
-        Ok(n) => write_list(rt, &imported.records, n),
+    let mut list = swatches::no_swatches();
+    match records::import(text, &mut list) {
+        Ok(n) => write_list(rt, &list, n),
         Err(refusal) => rt.write_all(swatch_text::refused_line(refusal.number()).as_bytes()),
     }
 }

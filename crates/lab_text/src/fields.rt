@@ -52,20 +52,15 @@ pub fn read_words(line: &[u8]) -> Option<Words<'_>>
     ensures { let ws = words_of line.now in
         MatchOption result (eqb (length ws) 4 ≡ false) (λ r. (length ws ≡ 4) × (texts r.all ≡ ws)) }
 {
-    let second = buffer::parts::next_part(line, 0, b' ');
-    let third = buffer::parts::next_part(line, second, b' ');
-    let fourth = buffer::parts::next_part(line, third, b' ');
-    let fifth = buffer::parts::next_part(line, fourth, b' ');
-    let four = (fourth <= line.len()) & (line.len() < fifth);
+    let (first, after_first) = buffer::parts::cut(line, 0, b' ');
+    let (second, after_second) = buffer::parts::cut(line, after_first, b' ');
+    let (third, after_third) = buffer::parts::cut(line, after_second, b' ');
+    let (fourth, after_fourth) = buffer::parts::cut(line, after_third, b' ');
+    let four = (after_third <= line.len()) & (line.len() < after_fourth);
     if !four {
         return None;
     }
-    let all = [
-        buffer::parts::part(line, 0, b' '),
-        buffer::parts::part(line, second, b' '),
-        buffer::parts::part(line, third, b' '),
-        buffer::parts::part(line, fourth, b' '),
-    ];
+    let all = [first, second, third, fourth];
     Some(Words { all })
 }
 

@@ -33,14 +33,14 @@ fn read_names(line: &[u8]) -> Option<Order>
 fn read_sets(line: &[u8]) -> Option<usize>
     ensures { IsRead (is_sets line.now) (sets_in line.now) result }
 {
-    let second = buffer::parts::next_part(line, 0, b' ');
-    let third = buffer::parts::next_part(line, second, b' ');
-    let two = (second <= line.len()) & (line.len() < third);
-    let named = buffer::equal(buffer::parts::part(line, 0, b' '), b"NUMBER_OF_SETS");
+    let (name, after_name) = buffer::parts::cut(line, 0, b' ');
+    let (number, after_number) = buffer::parts::cut(line, after_name, b' ');
+    let two = (after_name <= line.len()) & (line.len() < after_number);
+    let named = buffer::equal(name, b"NUMBER_OF_SETS");
     if !(two & named) {
         return None;
     }
-    let sets = fields::read_number(buffer::parts::part(line, second, b' '), 5)?;
+    let sets = fields::read_number(number, 5)?;
     Some(sets as usize)
 }
 

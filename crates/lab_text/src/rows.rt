@@ -61,7 +61,9 @@ impl Table {
     }
 }
 
-// Reads the rows from a place on.
+// Reads the rows from a place on. Not built into its caller, so that its list is off the stack while the
+// rows are sorted.
+#[inline(never)]
 pub fn read_rows(text: &[u8], first: usize, o: Order) -> Table
     requires { OrderIn o }
     ensures { TableRead o (parts_from 10 text.now first) result }

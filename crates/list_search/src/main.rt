@@ -37,7 +37,8 @@ fn case(
 ) -> io::Result<()> {
     match records::search_list(list, n, reading, ONES, tolerance, places) {
         Ok(count) => {
-            print!(rt; "found {count}:")?;
+            print!(rt; "found {count}")?;
+            print!(rt; ":")?;
             print_codes(rt, &list, places, count)?;
         }
         Err(SearchError::Refused(refusal)) => print!(rt; "refused {}", refusal.number())?,
@@ -77,6 +78,9 @@ fn main(rt: HostRuntime) -> io::Result<()> {
     let imported = records::import_list(&text[..n]);
     match imported.answer {
         Ok(count) => cases(&rt, imported.records, count),
-        Err(refusal) => println!(rt; "refused {}", refusal.number()),
+        Err(refusal) => {
+            print!(rt; "refused {}", refusal.number())?;
+            println!(rt;)
+        }
     }
 }

@@ -1,17 +1,17 @@
 -- Pairs answered one after the other, with weights that are rounded once. Assumes nothing.
 use mathlib.Core.Path.{◌≡◌, refl, sym, ap, ap₂, ◌∙◌}
 use mathlib.Core.List.{List}
-use Prim.Native.Nat.{ℕ, ◌+◌, ◌*◌, ◌≤◌, ◌<◌}
+use Prim.Native.Nat.{ℕ, ◌+◌, ◌*◌, ◌/◌, ◌≤◌, ◌<◌, min}
+use native.Mathlib.Nat.{min-le_left, min-le_right}
+use native.Mathlib.Omega.{arith}
 use lib.Ieee.{Float}
 use lib.ListN.{length, set}
 use Rattle.std.specs.Prelude.{Result, Ok, Err, IfOk}
-use Rattle.std.proofs.lemmas.Result.{IfOk-at_ok}
 use Rattle.places.specs.Places.{column_of}
 use Rattle.places.proofs.Columns.{column-more}
 use Rattle.refusal.specs.Refusals.{number_of, first_of, refused_with}
 use Rattle.refusal.specs.declared.Refusal.{Refusal}
 use Rattle.refusal.proofs.RefusalLaws.{first-none, first-zero, given-same, not-zero, gives-value, gives-refusal}
-use Rattle.sample.specs.Inner.{WeightsIn}
 use Rattle.sample.specs.declared.FixedWeights.{FixedWeights}
 use Rattle.fixed_point.specs.Refusals.{weights_refusal}
 use Rattle.fixed_point.specs.Samples.{sample_of, weights_of}
@@ -22,39 +22,20 @@ use Rattle.difference.specs.Inner.{prepared_sample, Millionths}
 use Rattle.difference.specs.declared.prepared.Prepared.{Prepared}
 use Rattle.measure.specs.Answers.{double_of, answer_of, refusal_of, difference_of}
 use Rattle.measure.specs.Calls.{pair_refusal, weighted_refusal, ciede2000_answer}
-use Rattle.measure.specs.Many.{reading_at, pair_answer, Answered, Results}
-use Rattle.measure.specs.Inner.{IsAccepted, rounded_answer, rounded_pair}
+use Rattle.measure.specs.Many.{reading_at, pair_count, pair_answer, Answered, Results}
+use Rattle.measure.specs.Inner.{IsAccepted, accepted_answer, rounded_answer, rounded_pair}
 use Rattle.measure.specs.declared.Accepted.{Accepted}
 use Rattle.measure.proofs.Refusing.{weighted-is}
 
 -- ---- a pair
-
--- an accepted pair of readings and weights, as the working takes it
-pub record Worked (s t : Reading) (w : Weights) (x : Accepted) : Type 0 where
-  pub none : weighted_refusal s t w ≡ 0
-  pub first : prepared_sample x.s ≡ sample_of s
-  pub second : prepared_sample x.t ≡ sample_of t
-  pub weights : x.w ≡ weights_of w
-  pub weights_in : WeightsIn x.w
 
 -- r is what the weights are rounded to, or their refusal
 pub weighted-by : (s t : Reading) (w : Weights) (r : Result FixedWeights Refusal) → refused_with r ≡ weights_refusal w
     → first_of (pair_refusal s t) (refused_with r) ≡ weighted_refusal s t w
 weighted-by s t w r e = ap (λ (n : ℕ). first_of (pair_refusal s t) n) e ∙ weighted-is s t w
 
-pub worked : (s t : Reading) (w : Weights) {r : Result FixedWeights Refusal} {x : Accepted} → refused_with r ≡ weights_refusal w
-    → IfOk r (λ v. v ≡ weights_of w) → 0 ≡ first_of (pair_refusal s t) (refused_with r) → IsAccepted s t r x → Worked s t w x
-worked s t w {r} e rounded none a =
-    record {
-      none = sym (none ∙ weighted-by s t w r e);
-      first = a.first;
-      second = a.second;
-      weights = IfOk-at_ok (λ v. v ≡ weights_of w) a.weights rounded;
-      weights_in = a.weights_in;
-    }
-
--- CIEDE2000 of it
-pub ciede2000-worked : (s t : Reading) (w : Weights) {x : Accepted} {n : ℕ} → Worked s t w x
+-- CIEDE2000 of an accepted pair of readings and weights
+pub ciede2000-worked : (s t : Reading) (w : Weights) {x : Accepted} {n : ℕ} → IsAccepted s t (weights_of w) x
     → Millionths (ciede2000_of x.w (prepared_sample x.s) (prepared_sample x.t)) n
     → n ≡ ciede2000_of (weights_of w) (sample_of s) (sample_of t)
 ciede2000-worked s t w a m = m.is ∙ (λ i. ciede2000_of (a.weights i) (a.first i) (a.second i))
@@ -72,6 +53,14 @@ pub rounded-refused : (s t : Reading) (r : Result FixedWeights Refusal) (e : Ref
     → number_of e ≡ first_of (pair_refusal s t) (refused_with r) → Err (number_of e) ≡ rounded_answer r s t
 rounded-refused s t (Ok w) e h = gives-refusal e _ (h ∙ first-zero _)
 rounded-refused s t (Err x) e h = gives-refusal e _ h
+
+-- an accepted pair, or the refusal of one
+pub accepted-rounded : (s t : Reading) (w : Result FixedWeights Refusal) (r : Result Accepted Refusal)
+    → refused_with r ≡ first_of (pair_refusal s t) (refused_with w) → IfOk r (λ a. (w ≡ Ok a.w) × IsAccepted s t a.w a)
+    → accepted_answer r ≡ rounded_answer w s t
+accepted-rounded s t w (Ok a) e h =
+    rw h.0 (gives-value (first-none _ _ (sym e)).0 (λ i. double_of (ciede2000_of a.w (h.1.first i) (h.1.second i))))
+accepted-rounded s t w (Err x) e h = rounded-refused s t w x e
 
 -- rounded weights answer as the weights themselves
 rounded-is : (s t : Reading) (w : Weights) (r : Result FixedWeights Refusal) → refused_with r ≡ weights_refusal w
@@ -122,3 +111,18 @@ pub record Held (a b c d n : ℕ) : Type 0 where
   pub samples : 3 * n ≤ b
   pub differences : n ≤ c
   pub refusals : n ≤ d
+
+pub pairs-held : (standards samples differences refusals : ℕ) {n : ℕ} → n ≡ pair_count standards samples differences refusals
+    → Held standards samples differences refusals n
+unfolding pair_count
+pairs-held standards samples differences refusals e =
+    let colours = min (standards / 3) (samples / 3) in
+    let room = min differences refusals in
+    let few = min-le_left colours room in
+    let many = min-le_right colours room in
+    record {
+      standards = omega (arith, few, min-le_left (standards / 3) (samples / 3));
+      samples = omega (arith, few, min-le_right (standards / 3) (samples / 3));
+      differences = omega (arith, many, min-le_left differences refusals);
+      refusals = omega (arith, many, min-le_right differences refusals);
+    }

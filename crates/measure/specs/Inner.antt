@@ -8,17 +8,22 @@ use Rattle.fixed_point.specs.Samples.{sample_of}
 use Rattle.difference.specs.Ciede2000.{ciede2000_of}
 use Rattle.difference.specs.Inner.{prepared_sample}
 use Rattle.fixed_point.specs.declared.Reading.{Reading}
-use Rattle.measure.specs.Answers.{answer_of}
+use Rattle.measure.specs.Answers.{double_of, answer_of}
 use Rattle.measure.specs.Calls.{pair_refusal}
 use Rattle.measure.specs.Many.{reading_at}
 use Rattle.measure.specs.declared.Accepted.{Accepted}
 
 -- x is the readings s and t and the weights w
-pub record IsAccepted (s t : Reading) (w : Result FixedWeights Refusal) (x : Accepted) : Type 0 where
+pub record IsAccepted (s t : Reading) (w : FixedWeights) (x : Accepted) : Type 0 where
   pub first : prepared_sample x.s ≡ sample_of s
   pub second : prepared_sample x.t ≡ sample_of t
-  pub weights : w ≡ Ok x.w
+  pub weights : x.w ≡ w
   pub weights_in : WeightsIn x.w
+
+-- CIEDE2000 of an accepted pair, or its refusal
+abbrev pub accepted_answer : Result Accepted Refusal → Result Float ℕ
+accepted_answer (Ok x) = Ok (double_of (ciede2000_of x.w (prepared_sample x.s) (prepared_sample x.t)))
+accepted_answer (Err e) = Err (number_of e)
 
 -- a pair's answer, from the rounded weights or their refusal
 abbrev pub rounded_answer : Result FixedWeights Refusal → Reading → Reading → Result Float ℕ

@@ -3,8 +3,7 @@
 #![tactic(auto)]
 
 ghost use Rattle.std.specs.Prelude.{◌≡◌, IfOk, ◌≤◌};
-ghost use Rattle.refusal.specs.Refusals.{first_of, numbered, refused_with};
-ghost use Rattle.std.specs.Result.{ForOk};
+ghost use Rattle.refusal.specs.Refusals.{numbered, refused_with};
 ghost use Rattle.sample.specs.Inner.{WeightsIn};
 ghost use Rattle.fixed_point.specs.Rounding.{fixed_size};
 ghost use Rattle.fixed_point.specs.Samples.{sample_of, weights_of};
@@ -44,13 +43,23 @@ fn double(n: u64) -> f64
     (n as f64) / 1000000.0
 }
 
+// Refusal 1, 2 or 3 of a pair, sample 1's first. A call makes all its tests before it rounds anything, so that
+// a refused one costs little.
+fn check_pair(standard: Reading, sample: Reading) -> Result<(), Refusal>
+    ensures { refused_with result ≡ pair_refusal standard sample }
+{
+    fixed_point::check_reading(standard)?;
+    fixed_point::check_reading(sample)
+}
+
 // CIE76 of two readings.
 pub fn cie76(standard: Reading, sample: Reading) -> Result<f64, Refusal>
     ensures { let millionths = cie76_of (sample_of standard) (sample_of sample) in
         numbered result ≡ answer_of (pair_refusal standard sample) millionths }
 {
-    let s = standard.rounded()?;
-    let t = sample.rounded()?;
+    check_pair(standard, sample)?;
+    let s = fixed_point::fixed_reading(standard);
+    let t = fixed_point::fixed_reading(sample);
     Ok(double(difference::cie76::cie76(s, t)))
 }
 
@@ -63,24 +72,27 @@ struct Accepted {
 }
 
 impl Accepted {
-    // The pair, or the first refusal that applies: of the readings, then the one of the weights.
-    fn new(
-        standard: Reading,
-        sample: Reading,
-        weights: Result<FixedWeights, Refusal>,
-    ) -> Result<Accepted, Refusal>
-        requires { ForOk weights WeightsIn }
-        ensures refusal { refused_with result ≡ first_of (pair_refusal standard sample) (refused_with weights) }
-        ensures accepted { IfOk result (λ x. IsAccepted standard sample weights x) }
+    // A pair that is not refused, with rounded weights.
+    fn of(standard: Reading, sample: Reading, w: FixedWeights) -> Accepted
+        requires pair_accepted { pair_refusal standard sample ≡ 0 }
+        requires weights_in { WeightsIn w }
+        ensures { IsAccepted standard sample w result }
     {
-        let s = standard.rounded()?;
-        let t = sample.rounded()?;
-        let w = weights?;
-        Ok(Accepted {
-            s: Prepared::of(s),
-            t: Prepared::of(t),
+        Accepted {
+            s: Prepared::of(fixed_point::fixed_reading(standard)),
+            t: Prepared::of(fixed_point::fixed_reading(sample)),
             w,
-        })
+        }
+    }
+
+    // The pair, or the first refusal that applies: of the readings, then the one of the weights.
+    fn new(standard: Reading, sample: Reading, weights: Weights) -> Result<Accepted, Refusal>
+        ensures refusal { refused_with result ≡ weighted_refusal standard sample weights }
+        ensures accepted { IfOk result (λ x. IsAccepted standard sample (weights_of weights) x) }
+    {
+        check_pair(standard, sample)?;
+        let rounded = weights.rounded()?;
+        Ok(Accepted::of(standard, sample, rounded))
     }
 }
 
@@ -100,7 +112,7 @@ pub fn cie94(
         let exchanged = cie94_of application comparison (weights_of weights) (sample_of second) (sample_of first) in
         (comparison ≡ WithoutStandard → numbered result ≡ answer_of refusal exchanged) }
 {
-    let x = Accepted::new(first, second, weights.rounded())?;
+    let x = Accepted::new(first, second, weights)?;
     Ok(double(difference::cie94::cie94(x.w, application, comparison, x.s, x.t)))
 }
 
@@ -112,7 +124,7 @@ pub fn ciede2000(standard: Reading, sample: Reading, weights: Weights) -> Result
     ensures zero { let refusal = weighted_refusal standard sample weights in
         (refusal ≡ 0 → sample_of standard ≡ sample_of sample → result ≡ Ok (double_of 0)) }
 {
-    let x = Accepted::new(standard, sample, weights.rounded())?;
+    let x = Accepted::new(standard, sample, weights)?;
     Ok(double(difference::ciede2000::ciede2000(x.w, x.s, x.t)))
 }
 
@@ -127,9 +139,11 @@ pub fn verdict(
         let millionths = ciede2000_of (weights_of weights) (sample_of standard) (sample_of sample) in
         numbered result ≡ verdict_given refusal millionths (fixed_size tolerance) }
 {
-    let pair = Accepted::new(standard, sample, weights.rounded())?;
+    check_pair(standard, sample)?;
+    fixed_point::check_weights(weights)?;
     let tolerance = fixed_point::rounded_tolerance(tolerance)?;
-    let n = difference::ciede2000::ciede2000(pair.w, pair.s, pair.t);
+    let x = Accepted::of(standard, sample, fixed_point::fixed_weights(weights));
+    let n = difference::ciede2000::ciede2000(x.w, x.s, x.t);
     Ok(Judgement {
         difference: double(n),
         within: difference::verdict::within_tolerance(n, tolerance),
@@ -189,6 +203,6 @@ pub fn figures(standard: Reading, sample: Reading, weights: Weights) -> Result<[
         let figures = figures_of (weights_of weights) (sample_of standard) (sample_of sample) in
         numbered result ≡ figures_given refusal figures }
 {
-    let x = Accepted::new(standard, sample, weights.rounded())?;
+    let x = Accepted::new(standard, sample, weights)?;
     Ok(figures_row(difference::ciede2000::figures(x.w, x.s, x.t)))
 }

@@ -1,13 +1,14 @@
 // CIEDE2000 of many pairs in one call: the weights are rounded once for all.
-ghost use Rattle.std.specs.Prelude.{◌≡◌, ◌+◌, ◌*◌, ◌≤◌, ◌<◌, length, set};
+ghost use Rattle.std.specs.Prelude.{◌≡◌, Ok, ◌+◌, ◌*◌, ◌≤◌, ◌<◌, length, set, IfOk};
 ghost use Rattle.std.specs.Result.{ForOk};
-ghost use Rattle.refusal.specs.Refusals.{numbered};
+ghost use Rattle.refusal.specs.Refusals.{first_of, numbered, refused_with};
 ghost use Rattle.sample.specs.Inner.{WeightsIn};
 ghost use Rattle.measure.specs.Answers.{refusal_of, difference_of};
 ghost use Rattle.measure.specs.Many.{reading_at, results, Answered, Compares};
-ghost use Rattle.measure.specs.Inner.{rounded_answer, rounded_pair};
+ghost use Rattle.measure.specs.Calls.{pair_refusal};
+ghost use Rattle.measure.specs.Inner.{IsAccepted, accepted_answer, rounded_answer, rounded_pair};
 
-use super::{Accepted, double};
+use super::{Accepted, check_pair, double};
 use difference::ciede2000::{ciede2000, ciede2000_two};
 use fixed_point::{Reading, Weights};
 use refusal::Refusal;
@@ -43,13 +44,32 @@ fn pair_at(standards: &[f32], samples: &[f32], k: usize) -> Colours
     Colours { s, t }
 }
 
+// The pair with weights that were rounded before, or the first refusal that applies.
+fn accepted(weights: Result<FixedWeights, Refusal>, x: Colours) -> Result<Accepted, Refusal>
+    requires { ForOk weights WeightsIn }
+    ensures refusal { refused_with result ≡ first_of (pair_refusal x.s x.t) (refused_with weights) }
+    ensures accepted { IfOk result (λ a. (weights ≡ Ok a.w) × IsAccepted x.s x.t a.w a) }
+{
+    check_pair(x.s, x.t)?;
+    let w = weights?;
+    Ok(Accepted::of(x.s, x.t, w))
+}
+
+// CIEDE2000 of a pair that is accepted, or its refusal.
+fn answer(pair: Result<Accepted, Refusal>) -> Result<f64, Refusal>
+    requires { ForOk pair (λ a. WeightsIn a.w) }
+    ensures { numbered result ≡ accepted_answer pair }
+{
+    let x = pair?;
+    Ok(double(ciede2000(x.w, x.s, x.t)))
+}
+
 // CIEDE2000 of a pair.
 fn pair_answer(weights: Result<FixedWeights, Refusal>, x: Colours) -> Result<f64, Refusal>
     requires { ForOk weights WeightsIn }
     ensures { numbered result ≡ rounded_answer weights x.s x.t }
 {
-    let x = Accepted::new(x.s, x.t, weights)?;
-    Ok(double(ciede2000(x.w, x.s, x.t)))
+    answer(accepted(weights, x))
 }
 
 // CIEDE2000 of two pairs, side by side where neither is refused.
@@ -62,10 +82,10 @@ fn two_answers(
     ensures first { numbered result.0 ≡ rounded_answer weights x.s x.t }
     ensures second { numbered result.1 ≡ rounded_answer weights y.s y.t }
 {
-    let first = Accepted::new(x.s, x.t, weights);
-    let second = Accepted::new(y.s, y.t, weights);
+    let first = accepted(weights, x);
+    let second = accepted(weights, y);
     let (Ok(p), Ok(q)) = (first, second) else {
-        return (pair_answer(weights, x), pair_answer(weights, y));
+        return (answer(first), answer(second));
     };
     let two = ciede2000_two(p.w, p.s, p.t, q.s, q.t);
     (Ok(double(two.first)), Ok(double(two.second)))

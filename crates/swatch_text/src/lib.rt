@@ -1,7 +1,7 @@
 // A swatch, or a refusal, as a line of text.
 #![tactic(auto)]
 
-ghost use Rattle.std.specs.Prelude.{◌≡◌, [], ◌∷◌, ◌++◌, ◌+◌, ◌≤◌, length};
+ghost use Rattle.std.specs.Prelude.{◌≡◌, [], ◌∷◌, ◌++◌, ◌+◌, ◌≤◌, length, take};
 ghost use Rattle.buffer.specs.Writing.{Written};
 ghost use Rattle.decimal.specs.Writing.{fixed_text, refused_text};
 ghost use Rattle.swatch_text.specs.Lines.{swatch_text};
@@ -13,7 +13,7 @@ use swatches::Swatch;
 // More bytes than a line has: a number of 21 and three of 23.
 const LINE_MOST: usize = 96;
 
-// A line, seen as its bytes.
+// A line.
 pub type Line = ArrayText<LINE_MOST>;
 
 // Writes a value in 1/10,000 with its decimals, and the byte `end`.
@@ -37,7 +37,7 @@ fn put_swatch(out: &mut [u8], s: Swatch) -> usize
 
 // The line of a swatch.
 pub fn swatch_line(s: Swatch) -> Line
-    ensures { result ≡ swatch_text s }
+    ensures { take result.len result.text ≡ swatch_text s }
 {
     let mut text = [0u8; LINE_MOST];
     let len = put_swatch(&mut text, s);
@@ -46,7 +46,7 @@ pub fn swatch_line(s: Swatch) -> Line
 
 // The line of a refusal.
 pub fn refused_line(n: u8) -> Line
-    ensures { result ≡ refused_text n }
+    ensures { take result.len result.text ≡ refused_text n }
 {
     let mut text = [0u8; LINE_MOST];
     let len = decimal::put_refused(&mut text, 0, n);

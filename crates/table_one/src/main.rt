@@ -107,7 +107,9 @@ fn rounded(millionths: u64) -> u64 {
 fn line(rt: &impl Print, millionths: u64, published: u64) -> io::Result<bool> {
     let found = rounded(millionths);
     let off = found.abs_diff(published);
-    println!(rt; "{} {} {off}", Units(found), Units(published))?;
+    print!(rt; "{} ", Units(found))?;
+    print!(rt; "{} ", Units(published))?;
+    println!(rt; "{off}")?;
     Ok(off <= 1)
 }
 

@@ -2,7 +2,7 @@
 // The input comes in pieces of any size, and a line of any length costs the same memory.
 #![tactic(auto)]
 
-ghost use Rattle.std.specs.Prelude.{◌≡◌, List, [], ◌++◌, ℕ, ◌+◌, ◌≤◌, ◌<◌, ◌↔◌, length, take, IsTrue, MatchOption};
+ghost use Rattle.std.specs.Prelude.{◌≡◌, List, [], ◌++◌, ℕ, ◌+◌, ◌≤◌, ◌<◌, ◌↔◌, length, take, replicate, IsTrue, MatchOption};
 ghost use Rattle.sample.specs.Inner.{lab_of};
 ghost use Rattle.buffer.specs.Writing.{Written};
 ghost use Rattle.text.specs.Line.{read_colour, read_pair};
@@ -247,13 +247,16 @@ pub fn step(mut state: State, chunk: &[u8], out: &mut [u8]) -> Progress
     }
 }
 
-// The answer of the last line, which no newline ended, seen as its bytes.
+// The answer of the last line, which no newline ended.
 pub type Ending = ArrayText<ANSWER_MOST>;
 
 // What the end of the input writes.
 pub fn finish(state: State) -> Ending
-    ensures last { result ≡ last_text (state_held state) }
-    ensures whole { (input : List ℕ) → state_held state ≡ state_of input → text_of input ≡ text_so_far input ++ result }
+    ensures last { let answer = last_text (state_held state) in
+        Written (replicate answer_most 0) 0 answer answer_most result.text result.len }
+    ensures bytes { take result.len result.text ≡ last_text (state_held state) }
+    ensures whole { (input : List ℕ) → state_held state ≡ state_of input
+        → text_of input ≡ text_so_far input ++ take result.len result.text }
 {
     let mut text = [0; ANSWER_MOST];
     if state.is_empty() {

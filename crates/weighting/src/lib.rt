@@ -6,7 +6,7 @@ ghost use Rattle.std.specs.Prelude.{◌≡◌, ◌+◌, ◌*◌, ◌/◌, ◌^�
 ghost use Rattle.signed.specs.Inner.{Within};
 ghost use Rattle.sine.specs.Sine.{cosine_of};
 ghost use Rattle.weighting.specs.Weighting.{term_of, hue_term, lightness_weight, chroma_weight, hue_weight};
-ghost use Rattle.weighting.specs.Weighting.{hue_distance, rotation};
+ghost use Rattle.weighting.specs.Weighting.{hue_distance, rotation_sine, rotation};
 
 use signed::Int;
 
@@ -69,18 +69,27 @@ pub fn hue_weight(s: u64, t: u64) -> u64
 }
 
 // How far the mean hue h lies from 275 degrees, where the Gaussian is taken.
-fn hue_distance(h: u64) -> u64
+pub fn hue_distance(h: u64) -> u64
     ensures { result ≡ hue_distance h }
 {
     h.abs_diff(275000000)
 }
 
-// The rotation term R, of the seventh-power ratio z and the mean hue h; the published term is minus R.
+// The rotation term R, of the seventh-power ratio z and the Gaussian e at the mean hue; the published
+// term is minus R.
+pub fn gaussian_rotation(e: u64, z: u64) -> u64
+    requires e_bound { e ≤ 1000000000 }
+    requires z_bound { z ≤ 1000000000 }
+    ensures { result ≡ 2 * z * rotation_sine e / 1000000000 }
+{
+    let k = signed::size(sine::sine(6 * e / 100));
+    2 * z * k / sine::ONE
+}
+
+// The rotation term R, of the seventh-power ratio z and the mean hue h.
 pub fn rotation_term(z: u64, h: u64) -> u64
     requires { z ≤ 1000000000 }
     ensures { result ≡ rotation z h }
 {
-    let e = gaussian::gaussian(hue_distance(h));
-    let k = signed::size(sine::sine(6 * e / 100));
-    2 * z * k / sine::ONE
+    gaussian_rotation(gaussian::gaussian(hue_distance(h)), z)
 }

@@ -1,4 +1,4 @@
--- `fixed_point::reading_refusal` meets its contract. Assumes nothing.
+-- `fixed_point::check_reading` meets its contract. Assumes nothing.
 use Rattle.std.proofs.Common.{sym, refl, ◌∙◌}
 use lib.Ieee.{of_bits, neg}
 use Rattle.fixed_point.proofs.Flags.{reading-by}

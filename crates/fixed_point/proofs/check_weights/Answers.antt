@@ -1,4 +1,4 @@
--- `fixed_point::weights_refusal` meets its contract. Assumes nothing.
+-- `fixed_point::check_weights` meets its contract. Assumes nothing.
 use lib.Ieee.{of_bits}
 use Rattle.std.proofs.Common.{sym, refl, ◌∙◌}
 use Rattle.fixed_point.proofs.Flags.{weights-by}

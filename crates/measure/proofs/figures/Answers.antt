@@ -7,13 +7,12 @@ use Rattle.difference.specs.Inner.{FiguresIn}
 use Rattle.difference.proofs.Points.{prepared-in}
 use Rattle.difference.proofs.FigureBounds.{figures-in}
 use Rattle.measure.specs.Answers.{figures_row}
-use Rattle.measure.proofs.Answering.{weighted-by, worked}
 use Rattle.measure.proofs.figures.Goals as goal
 
 pub returns-in_err-x : goal.returns-in_err-x
 returns-in_err-x c =
     let p = err_from_is_err_and c.from_residual.result c.from_residual.ensures.1 in
-    rw (p.1, p.2) (gives-refusal _ _ (c.in_err-x.ensures.refusal ∙ weighted-by _ _ _ _ c.rounded.ensures.refusal))
+    rw (p.1, p.2) (gives-refusal _ _ c.in_err-x.ensures.refusal)
 
 pub figures_row-requires : goal.figures_row-requires
 figures_row-requires c =
@@ -25,6 +24,6 @@ figures_row-requires c =
 
 pub returns : goal.returns
 returns c =
-    let x = worked _ _ _ c.rounded.ensures.refusal c.rounded.ensures.weights c.in_ok-x.ensures.refusal c.in_ok-x.ensures.accepted in
+    let x = c.in_ok-x.ensures.accepted in
     let is = c.figures.ensures.is ∙ (λ i. figures_of (x.weights i) (x.first i) (x.second i)) in
-    gives-value x.none (c.figures_row.ensures ∙ ap figures_row is)
+    gives-value (sym c.in_ok-x.ensures.refusal) (c.figures_row.ensures ∙ ap figures_row is)

@@ -1,12 +1,12 @@
--- `weighting::rotation_term` meets its contract: the sine is not above 10^9. Assumes nothing.
+-- `weighting::rotation_term` meets its contract: the Gaussian is not above 10^9. Assumes nothing.
 use native.Mathlib.Omega.{arith}
 use Rattle.gaussian.proofs.GaussianLaws.{gaussian-le}
-use Rattle.weighting.specs.Weighting.{rotation_sine, rotation}
+use Rattle.weighting.specs.Weighting.{rotation}
 use Rattle.weighting.proofs.rotation_term.Goals as goal
 
-pub overflow_mul-e : goal.overflow_mul-e
-overflow_mul-e c = omega (arith, c.gaussian-e.ensures, gaussian-le c.hue_distance.result)
+pub gaussian_rotation-requires : goal.gaussian_rotation-requires
+gaussian_rotation-requires c = record { e_bound = omega (arith, c.gaussian.ensures, gaussian-le c.hue_distance.result); z_bound = c.requires }
 
 pub returns : goal.returns
-unfolding rotation rotation_sine
+unfolding rotation
 returns c = cc

@@ -6,14 +6,19 @@ use Rattle.lab_text.proofs.fields.read_words.Goals as goal
 
 pub returns-then-not-four : goal.returns-then-not-four
 returns-then-not-four c =
-    sym (four-is _ _ _ _ _ c.next_part-second.ensures c.next_part-third.ensures c.next_part-fourth.ensures c.next_part-fifth.ensures)
-    ∙ c.if-not-four.true
+    let one = c.cut-after_first.ensures in
+    let two = c.cut-after_second.ensures in
+    let three = c.cut-after_third.ensures in
+    let four = c.cut-after_fourth.ensures in
+    sym (four-is _ _ _ _ _ one.next two.next three.next four.next) ∙ c.if-not-four.true
 
 pub returns : goal.returns
 returns c =
-    let four = four-is _ _ _ _ _ c.next_part-second.ensures c.next_part-third.ensures c.next_part-fourth.ensures c.next_part-fifth.ensures in
-    let n = eqb-true _ 4 (sym four ∙ c.if-not-four.false) in (
+    let one = c.cut-after_first.ensures in
+    let two = c.cut-after_second.ensures in
+    let three = c.cut-after_third.ensures in
+    let four = c.cut-after_fourth.ensures in
+    let n = eqb-true _ 4 (sym (four-is _ _ _ _ _ one.next two.next three.next four.next) ∙ c.if-not-four.false) in (
       n,
-      four_are _ _ _ _ _ c.next_part-second.ensures c.next_part-third.ensures c.next_part-fourth.ensures c.next_part-fifth.ensures
-          n c.part.ensures c.part-2.ensures c.part-3.ensures c.part-4.ensures,
+      four_are _ _ _ _ _ one.next two.next three.next four.next n one.part two.part three.part four.part,
     )

@@ -8,24 +8,25 @@ use Rattle.lab_text.proofs.head.read_sets.Goals as goal
 pub returns-then-not-two-named : goal.returns-then-not-two-named
 unfolding number_of_sets
 returns-then-not-two-named c =
-    sets-other _ _ _ c.next_part-second.ensures c.next_part-third.ensures c.part.ensures c.equal-named.ensures
-    c.if-not-two-named.true
+    let name = c.cut-after_name.ensures in
+    let number = c.cut-after_number.ensures in
+    sets-other _ _ _ name.next number.next name.part c.equal-named.ensures c.if-not-two-named.true
 
 pub returns-in_err-sets : goal.returns-in_err-sets
 unfolding number_of_sets
 returns-in_err-sets c =
+    let name = c.cut-after_name.ensures in
+    let number = c.cut-after_number.ensures in
     none_read _ c.from_residual.ensures
-    (sets-are _ _ _ c.next_part-second.ensures c.next_part-third.ensures c.part.ensures c.equal-named.ensures c.part-2.ensures
-    c.if-not-two-named.false
+    (sets-are _ _ _ name.next number.next name.part c.equal-named.ensures number.part c.if-not-two-named.false
     ∙ c.in_err-sets.ensures.is)
 
 pub returns : goal.returns
 unfolding number_of_sets
-returns c = (
-  sets-are _ _ _ c.next_part-second.ensures c.next_part-third.ensures c.part.ensures c.equal-named.ensures c.part-2.ensures
-      c.if-not-two-named.false
-      ∙ c.in_ok-sets.ensures.is.0,
-  c.in_ok-sets.ensures.is.1
-      ∙ sets-number _ _ _ c.next_part-second.ensures c.next_part-third.ensures c.part.ensures c.equal-named.ensures
-      c.part-2.ensures,
-)
+returns c =
+    let name = c.cut-after_name.ensures in
+    let number = c.cut-after_number.ensures in (
+      sets-are _ _ _ name.next number.next name.part c.equal-named.ensures number.part c.if-not-two-named.false
+          ∙ c.in_ok-sets.ensures.is.0,
+      c.in_ok-sets.ensures.is.1 ∙ sets-number _ _ _ name.next number.next name.part c.equal-named.ensures number.part,
+    )
