@@ -1,7 +1,7 @@
 -- What each reader makes of what the readers below it found.
 use mathlib.Core.Path.{◌≡◌, refl, sym, ap, ◌∙◌}
 use mathlib.Core.Bool.{Bool, true, false}
-use mathlib.Core.List.{List, []}
+use mathlib.Core.List.{List}
 use Prim.Native.Nat.{ℕ, zero, suc, ◌+◌, ◌-◌, ◌*◌, ◌^◌, ◌≤◌, ◌<◌}
 use native.Mathlib.Numerals.{add-one}
 use native.Mathlib.Nat.{pow-suc, pow-le-pow_right, one-le-pow, mul-lt-mul_of_pos_right}
@@ -9,11 +9,8 @@ use native.Mathlib.Omega.{arith}
 use lib.Dec.{lit<}
 use lib.Pow.{pow-add}
 use borrow.Author.Tests.{lt-ltb, le-ltb, eq-eqb, ne_eqb}
-use Rattle.std.specs.Prelude.{Option, Some, None, MatchOption}
-use Rattle.std.specs.Option.{unwrap_or}
-use Rattle.std.specs.Borrow.{Bor}
 use Rattle.signed.specs.Value.{with_sign}
-use Rattle.decimal.specs.Reading.{starts, after, after_space, digit_first, Found, found, missing, and_then, run_on, run_of}
+use Rattle.decimal.specs.Reading.{starts, after, digit_first, Found, found, missing, and_then, run_on, run_of}
 use Rattle.decimal.specs.Reading.{fraction_run, fraction_of, whole_run, decimal_of}
 use Rattle.decimal.specs.Inner.{run_in}
 use Rattle.decimal.specs.declared.Digits.{Digits}
@@ -51,13 +48,6 @@ fraction-below v n h k =
     rw (← pow-add 10 n (4 - n), e) at (mul-lt-mul_of_pos_right h (one-le-pow (4 - n) 10 (lit< tt)))
 
 -- ---- from what was read of each part
-
-pub space_after : (s : List ℕ) (r : Option (Bor (List ℕ))) (d : Bor (List ℕ)) {v : Bor (List ℕ)}
-    → MatchOption r (starts 32 s ≡ false) (λ rest. (starts 32 s ≡ true) × (rest.now ≡ after s))
-    → v ≡ unwrap_or r d → d.now ≡ [] → v.now ≡ after_space s
-unfolding after_space
-space_after s None d h e z = ap (λ (b : Bor (List ℕ)). b.now) e ∙ z ∙ sym (rw h)
-space_after s (Some rest) d h e z = ap (λ (b : Bor (List ℕ)). b.now) e ∙ h.1 ∙ sym (rw h.0)
 
 -- the decimals after the point
 module _ (s : List ℕ) where

@@ -1,7 +1,9 @@
 -- `decimal::after_space` meets its contract. Assumes nothing.
-use mathlib.Core.Path.{refl}
-use Rattle.decimal.proofs.ReadingLaws.{space_after}
+use native.Mathlib.Omega.{arith}
+use Rattle.std.proofs.lemmas.Grind.{common_steps}
+use Rattle.decimal.specs.Reading.{after_space}
 use Rattle.decimal.proofs.after_space.Goals as goal
 
 pub returns : goal.returns
-returns c = space_after _ _ _ c.after.ensures c.unwrap_or.ensures refl
+unfolding after_space
+returns c = grind (arith, common_steps)
