@@ -13,7 +13,7 @@ use Rattle.places.proofs.PlacesLaws.{every-at}
 use Rattle.sample.specs.Sample.{colour_refusal}
 use Rattle.refusal.specs.Refusals.{number_of as refusal_number, first_of, first_refusal}
 use Rattle.refusal.specs.declared.Refusal.{Refusal}
-use Rattle.refusal.proofs.RefusalLaws.{none_of, first-last, first-refused, first_then}
+use Rattle.refusal.proofs.RefusalLaws.{none_of, not-zero, first-last, first-applies, first-refused, first_then}
 use Rattle.fixed_point.specs.Refusals.{reading_refusal, weights_refusal, tolerance_refusal}
 use Rattle.deck.specs.Deck.{Deck, Query, sizes_in, swatches_in, lightness_rises, deck_refusal, search_refusal}
 use Rattle.deck.specs.Inner.{Sizes}
@@ -120,6 +120,12 @@ pub query-then-deck : (q : Query) (d : Deck) → first_of (query_refusal q) (dec
 unfolding query_refusal search_refusal
 query-then-deck q d = first_then _ (deck_refusal d)
 
+pub first-of-query : (q : Query) (d : Deck) → (query_refusal q ≡ 0 → ⊥) → search_refusal q d ≡ query_refusal q
+first-of-query q d h = sym (query-then-deck q d) ∙ sym (first-applies _ (deck_refusal d) h)
+
+pub first-of-deck : (q : Query) (d : Deck) → query_refusal q ≡ 0 → search_refusal q d ≡ deck_refusal d
+first-of-deck q d e = sym (query-then-deck q d) ∙ ap (λ (n : ℕ). first_of n (deck_refusal d)) e
+
 -- ---- the answer, and what the list holds
 
 -- r and new are those of a refusal k, of the matches, and of the list before
@@ -131,6 +137,13 @@ module _ (matches old : List ℕ) where
   unfolding found_of contents_of
   answers-refused zero k e h = absurd (h refl)
   answers-refused (suc n) k e h = (ap (λ j. found_of j matches (length old)) e, ap (λ j. contents_of j matches old) e)
+
+  module _ (k : ℕ) (h : k ≡ 0 → ⊥) where
+    pub answer-of-refusal : found_of k matches (length old) ≡ Refused k
+    answer-of-refusal = sym (answers-refused k k refl h).0
+
+    pub contents-of-refusal : contents_of k matches old ≡ old
+    contents-of-refusal = sym (answers-refused k k refl h).1
 
   module _ (n : ℕ) (e : length matches ≡ n) where
     pub answers-fit : n ≤ length old → Answers 0 matches old (Count n) (matches ++ drop n old)
@@ -163,6 +176,9 @@ module _ (matches old : List ℕ) where
   answer-refused r new (suc n) a h =
       let e = a.0 in
       record { number_is = ap number_of e; needed_is = ap needed_of e; count_is = ap count_of e; kept = a.1 }
+
+-- what a call answers that is refused, by the query or by the deck alone
+pub ruleset refused_steps = (first-of-query, first-of-deck, answer-of-refusal, contents-of-refusal, not-zero)
 
 pub short-refuses : (n : ℕ) (r : Found) (old new : List ℕ) → r ≡ Short n → new ≡ old → Refuses 8 n r old new
 short-refuses n r old new e f =

@@ -60,6 +60,7 @@ fn answer(
 // The places of the swatches within a tolerance of a reading, to the front of the caller's list; their number.
 // Swatches are sample 1, the reading sample 2; places count from 0, and equal swatches are each
 // listed. `Searches` says all, for every call.
+#[tactic(auto, using(crate::proofs::DeckLaws::refused_steps))]
 pub fn search(
     l: &[i32],
     a: &[i32],

@@ -129,6 +129,7 @@ pub fn ciede2000(standard: Reading, sample: Reading, weights: Weights) -> Result
 }
 
 // CIEDE2000 of two readings, and whether it is at most the tolerance.
+#[tactic(auto, unfolding(crate::specs::Calls::pair_refusal, crate::specs::Calls::verdict_refusal, fixed_point::specs::Refusals::tolerance_refusal, refusal::specs::Refusals::first_refusal, refusal::specs::Refusals::given))]
 pub fn verdict(
     standard: Reading,
     sample: Reading,

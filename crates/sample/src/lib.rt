@@ -85,6 +85,7 @@ impl FixedColour {
     }
 
     // Whether the colour is within the limits.
+    #[tactic(auto, unfolding(crate::specs::Sample::colour_refusal))]
     pub fn is_within(self) -> bool
         ensures { result ≡ eqb (colour_refusal (colour_of self)) 0 }
     {
@@ -104,6 +105,7 @@ impl FixedColour {
     }
 
     // The colour as a sample, or its refusal.
+    #[tactic(auto, unfolding(crate::specs::Sample::colour_refusal))]
     pub fn accepted(self) -> Result<Lab, Refusal>
         ensures refusal { refused_with result ≡ colour_refusal (colour_of self) }
         ensures sample { IfOk result (λ s. lab_of s ≡ colour_sample (colour_of self)) }

@@ -98,12 +98,13 @@ unfolding last_text
 last_empty = refl
 
 -- a run over a piece that read n bytes
-pub follows : {h : Held} {chunk out last : List ℕ} {n : ℕ} {r : Progress} → Going h chunk out last (state_held r.state) n r.written
-    → (input : List ℕ) → h ≡ state_of input → Follows input (take n chunk) last r
-follows {h} {chunk} {out} {last} {n} {r} s input e =
+pub follows : {h : Held} {chunk out last : List ℕ} {m n : ℕ} {r : Progress} → Going h chunk out last (state_held r.state) n r.written
+    → m ≡ n → (input : List ℕ) → h ≡ state_of input → Follows input (take m chunk) last r
+follows {h} {chunk} {out} {last} {m} {n} {r} s read input e =
     let more : List ℕ = take n chunk in
     let t : held_text (state_of input) more ≡ take r.written last =
     ap (λ (x : Held). held_text x more) (sym e) ∙ sym (written-take (le_refl (length out)) s.text) in
+    rw read
     record {
       state = s.held ∙ ap (λ (x : Held). held_after x more) e ∙ state-more input more;
       text = text-more input more ∙ ap (λ (x : List ℕ). text_so_far input ++ x) t;

@@ -7,6 +7,7 @@ use Rattle.buffer.proofs.NumberLaws.{pointwise-same, same-flip}
 use Rattle.buffer.proofs.starts_with.Goals as goal
 
 pub returns : goal.returns
+unfolding same
 returns c =
     let t = c.args.text.now in
     let is : c.starts_with.result ≡ same (take (length t) c.args.bytes.now) t =

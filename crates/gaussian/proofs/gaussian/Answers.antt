@@ -10,7 +10,7 @@ pub returns-then-distance-ge-END : goal.returns-then-distance-ge-END
 returns-then-distance-ge-END c = sym (gaussian-beyond _ (omega arith))
 
 pub between-requires-clause-entry_bounds : goal.between-requires-clause-entry_bounds
-between-requires-clause-entry_bounds c = neighbours-in _ _ _ c.if-distance-ge-END.false c.entry.ensures c.entry-2.ensures
+between-requires-clause-entry_bounds c = neighbours-in _ _ _ c.if-distance-ge-END.false (grind arith) (grind arith)
 
 pub returns : goal.returns
-returns c = c.between.ensures ∙ between_is _ _ _ c.if-distance-ge-END.false c.entry.ensures c.entry-2.ensures
+returns c = c.between.ensures ∙ between_is _ _ _ c.if-distance-ge-END.false (grind arith) (grind arith)

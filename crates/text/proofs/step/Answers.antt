@@ -1,5 +1,5 @@
 -- `text::step` meets its contract. Assumes nothing.
-use mathlib.Core.Path.{◌≡◌, refl, ap, ◌∙◌}
+use mathlib.Core.Path.{refl, ap, ◌∙◌}
 use Prim.Native.Nat.{◌+◌, ◌≤◌}
 use native.Mathlib.Omega.{arith}
 use lib.ListN.{length}
@@ -25,9 +25,7 @@ loop-read-preserved c =
     ]
 
 pub returns-then-out-written-lt-ANSWER_MOST-clause-whole : goal.returns-then-out-written-lt-ANSWER_MOST-clause-whole
-returns-then-out-written-lt-ANSWER_MOST-clause-whole c = follows c.loop-read.invariant
+returns-then-out-written-lt-ANSWER_MOST-clause-whole c = follows c.loop-read.invariant (grind arith)
 
 pub returns-clause-whole : goal.returns-clause-whole
-returns-clause-whole c =
-    let all : c.loop-read.read ≡ length c.args.chunk.now = omega (arith, c.loop-read-test.false, c.loop-read.auto.read-end) in
-    follows (rw all at c.loop-read.invariant)
+returns-clause-whole c = follows c.loop-read.invariant (omega (arith, c.loop-read-test.false, c.loop-read.auto.read-end))

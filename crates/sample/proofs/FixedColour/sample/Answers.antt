@@ -1,10 +1,10 @@
 -- A colour that is not refused is a sample: its lightness is not below 0, and each number is within the sample's bounds.
 -- Assumes nothing.
+use mathlib.Core.Path.{◌≡◌}
 use native.Mathlib.Omega.{arith}
 use mir.Syntax.{w32}
 use mir.Val.{of_z, to_z}
-use mir.Facts.{to_z-of_z}
-use borrow.Author.Rules.{sfits_of}
+use Rattle.std.proofs.lemmas.Int.{to_z-of_z}
 use Rattle.sample.specs.Sample.{colour_sample}
 use Rattle.sample.specs.Inner.{lab_of, colour_of}
 use Rattle.sample.proofs.SampleLaws.{Made, lightness-made, made}
@@ -12,15 +12,13 @@ use Rattle.sample.proofs.FixedColour.sample.Goals as goal
 
 pub overflow_cast-result : goal.overflow_cast-result
 overflow_cast-result c =
-    let l = lightness-made (colour_of c.args.self) c.requires (to_z-of_z {w = w32} {z = c.args.self.l} (sfits_of c.type_inv.self.0.1)) in
+    let read : to_z w32 (of_z w32 c.args.self.l) ≡ c.args.self.l = grind (arith, to_z-of_z) in
+    let l = lightness-made (colour_of c.args.self) c.requires read in
     (l.0, record { fits = omega (arith, l.1) })
 
 sample_made : (c : goal.After-from-2) → Made (colour_of c.args.self) (to_z w32 (of_z w32 c.args.self.l)) c.from.result c.from-2.result
 sample_made c =
-    made (colour_of c.args.self) c.requires
-    (to_z-of_z {w = w32} {z = c.args.self.l} (sfits_of c.struct_told-1.given.0.1))
-    (to_z-of_z {w = w32} {z = c.args.self.a} (sfits_of c.struct_told-2-1.given.1.0.1))
-    (to_z-of_z {w = w32} {z = c.args.self.b} (sfits_of c.struct_told-3-1.given.1.1.0.1))
+    made (colour_of c.args.self) c.requires (grind (arith, to_z-of_z)) (grind (arith, to_z-of_z)) (grind (arith, to_z-of_z))
     c.from.ensures c.from-2.ensures
 
 pub invariant_of-result : goal.invariant_of-result
